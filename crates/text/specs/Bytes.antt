@@ -1,0 +1,64 @@
+-- A line is a list of bytes, and a byte a number below 256. Tests on lines, and where a byte or a text stands.
+use Prim.Native.Nat.{ℕ, zero, suc, _+_, _-_}
+use Prim.Native.Char.{Char, code}
+use Prim.Native.String.{String}
+use Prim.Native.String.{[] as empty, _∷_ as _then_}
+use mathlib.Core.Bool.{Bool, true, false, cond, _&&_}
+use mathlib.Core.List.{List, [], _∷_}
+use lib.ListN.{length, take, drop}
+use lib.Dec.{eqb, ltb, leb}
+
+-- a quoted text as its bytes: the code of each of its ASCII characters
+abbrev pub bytes : String → List ℕ
+bytes empty = []
+bytes (c then s) = code c ∷ bytes s
+
+-- x lies from lo to hi, both taken in
+abbrev pub within : ℕ → ℕ → ℕ → Bool
+within lo hi x = leb lo x && leb x hi
+
+-- the line begins with the text p
+abbrev pub startsWith : List ℕ → List ℕ → Bool
+startsWith [] s = true
+startsWith (b ∷ p) [] = false
+startsWith (b ∷ p) (x ∷ s) = eqb x b && startsWith p s
+
+-- the line is the text t
+abbrev pub same : List ℕ → List ℕ → Bool
+same s t = eqb (length s) (length t) && startsWith t s
+
+-- the line ends with the text p
+abbrev pub endsWith : List ℕ → List ℕ → Bool
+endsWith p s = same (drop (length s - length p) s) p
+
+-- how many bytes stand before the first b, all of them where there is none
+abbrev pub indexOf : ℕ → List ℕ → ℕ
+indexOf b [] = 0
+indexOf b (x ∷ s) = cond (eqb x b) 0 (indexOf b s + 1)
+
+-- how often b stands in the line
+abbrev pub countOf : ℕ → List ℕ → ℕ
+countOf b [] = 0
+countOf b (x ∷ s) = cond (eqb x b) 1 0 + countOf b s
+
+-- the line has a b
+abbrev pub has : ℕ → List ℕ → Bool
+has b s = ltb (indexOf b s) (length s)
+
+-- how many bytes stand before the first place where the text p stands, all of them where there is none
+abbrev pub indexOfText : List ℕ → List ℕ → ℕ
+indexOfText p [] = 0
+indexOfText p (x ∷ s) = cond (startsWith p (x ∷ s)) 0 (indexOfText p s + 1)
+
+-- the text p stands in the line
+abbrev pub hasText : List ℕ → List ℕ → Bool
+hasText p s = ltb (indexOfText p s) (length s)
+
+-- '0' to '9'
+abbrev pub digit : ℕ → Bool
+digit x = within 48 57 x
+
+-- all bytes are ASCII digits, as those of an empty line are
+abbrev pub allDigits : List ℕ → Bool
+allDigits [] = true
+allDigits (x ∷ s) = digit x && allDigits s

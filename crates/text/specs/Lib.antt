@@ -1,0 +1,5 @@
+pub mod Bytes
+pub mod Number
+pub mod Part
+pub mod Reading
+pub mod Utf8

@@ -1,0 +1,43 @@
+-- What a reader of a line answers on paper, and how readers are put together.
+use Prim.Native.Nat.{ℕ}
+use mathlib.Core.Bool.{Bool, true, false, cond}
+use mathlib.Core.List.{List, [], _∷_}
+use mathlib.Core.Option.{Option, none, some}
+use lib.Dec.{ltb, eqb}
+use lib.ListN.{length}
+
+-- a value, or the number of the refusal
+pub data Reading (A : Type 0) : Type 0 where
+  read : A → Reading A
+  refused : ℕ → Reading A
+
+module _ {A : Type 0} where
+  -- the reading where the test passes, else refusal 3
+  unfoldable pub only : Bool → Reading A → Reading A
+  only t r = cond t r (refused 3)
+
+  -- the first reading where the test passes, else the second
+  unfoldable pub either : Bool → Reading A → Reading A → Reading A
+  either t r q = cond t r q
+
+module _ {A B : Type 0} where
+  -- what f reads with the value, which is there, else refusal 3
+  unfoldable pub need : Option A → (A → Reading B) → Reading B
+  need none f = refused 3
+  need (some a) f = f a
+
+  -- the value that was read, under another name
+  unfoldable pub mapped : (A → B) → Reading A → Reading B
+  mapped f (read a) = read (f a)
+  mapped f (refused k) = refused k
+
+-- the refusal of readers tried one after the other: 4 where one said 4 (document 01, "Refusal numbers", 3)
+abbrev pub worse : ℕ → ℕ → ℕ
+worse j k = cond (eqb j 4) 4 k
+
+module _ {A : Type 0} where
+  -- readers in order of trial: the first that accepts, else 4 where one said 4, else 3
+  unfoldable pub firstOf : ℕ → List (Reading A) → Reading A
+  firstOf j [] = refused j
+  firstOf j (read a ∷ rs) = read a
+  firstOf j (refused k ∷ rs) = firstOf (worse j k) rs

@@ -1,0 +1,7 @@
+// The bytes of a line: tests, parts, fields, numbers, UTF-8, and the check that every line passes first.
+pub mod bytes;
+pub mod field;
+pub mod line;
+pub mod number;
+pub mod part;
+pub mod utf8;

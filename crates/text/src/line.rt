@@ -1,0 +1,1 @@
+// The check that every line passes first.

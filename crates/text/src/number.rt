@@ -1,0 +1,1 @@
+// Whole numbers, one reader per width over one reader of digits.
