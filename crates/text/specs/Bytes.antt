@@ -34,7 +34,7 @@ endsWith p s = same (drop (length s - length p) s) p
 -- how many bytes stand before the first b, all of them where there is none
 abbrev pub indexOf : ℕ → List ℕ → ℕ
 indexOf b [] = 0
-indexOf b (x ∷ s) = cond (eqb x b) 0 (indexOf b s + 1)
+indexOf b (x ∷ s) = cond (eqb x b) 0 (suc (indexOf b s))
 
 -- how often b stands in the line
 abbrev pub countOf : ℕ → List ℕ → ℕ
@@ -48,7 +48,7 @@ has b s = ltb (indexOf b s) (length s)
 -- how many bytes stand before the first place where the text p stands, all of them where there is none
 abbrev pub indexOfText : List ℕ → List ℕ → ℕ
 indexOfText p [] = 0
-indexOfText p (x ∷ s) = cond (startsWith p (x ∷ s)) 0 (indexOfText p s + 1)
+indexOfText p (x ∷ s) = cond (startsWith p (x ∷ s)) 0 (suc (indexOfText p s))
 
 -- the text p stands in the line
 abbrev pub hasText : List ℕ → List ℕ → Bool

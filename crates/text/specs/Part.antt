@@ -58,3 +58,11 @@ trimEnd bs (x ∷ s) = keep (among bs x) x (trimEnd bs s)
 -- without both
 abbrev pub trimmed : List ℕ → List ℕ → List ℕ
 trimmed bs s = trimEnd bs (trimFront bs s)
+
+-- where what is left begins: behind the bytes at the front that go; at the line's own start where nothing is left
+abbrev pub leading : List ℕ → List ℕ → ℕ
+leading bs [] = 0
+leading bs (x ∷ s) = cond (among bs x) (suc (leading bs s)) 0
+
+unfoldable pub trimPlace : List ℕ → List ℕ → ℕ
+trimPlace bs s = cond (eqb (leading bs s) (length s)) 0 (leading bs s)

@@ -1,7 +1,7 @@
 // Tests on a line's bytes, and where a byte stands.
 ghost use mathlib.Core.Path.{_≡_};
-ghost use Prim.Native.Nat.{_+_};
-ghost use lib.ListN.{drop};
+ghost use Prim.Native.Nat.{_+_, _≤_};
+ghost use lib.ListN.{length, drop};
 ghost use Rattle.text.specs.Bytes.{same, startsWith, endsWith, indexOf, countOf, has, allDigits, indexOfText, hasText};
 
 // The index of the first b of s at or after `from`: where there is none, the length, or `from` where that is larger.
@@ -43,14 +43,11 @@ pub fn count_byte(s: &[u8], b: u8) -> usize
 }
 
 // Whether the text p stands in s at index `at`.
-pub fn stands_at(s: &[u8], at: usize, p: &[u8]) -> bool
+fn stands_at(s: &[u8], at: usize, p: &[u8]) -> bool
+    requires { ⌜ at ≤ length (now s) ⌝ }
     ensures { λ r. ⌜ r ≡ startsWith (now (p .entry)) (drop at (now (s .entry))) ⌝ }
 {
-    if s.len() < at {
-        return p.len() == 0;
-    }
-    let room = s.len() - at;
-    if room < p.len() {
+    if s.len() - at < p.len() {
         return false;
     }
     let mut i = 0;

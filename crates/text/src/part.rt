@@ -1,10 +1,11 @@
 // Parts of a line: no copies, each says its bytes and its place in the line.
 use crate::bytes;
 ghost use mathlib.Core.Path.{_≡_};
+ghost use mathlib.Core.List.{[], _∷_};
 ghost use Prim.Native.Nat.{_+_};
 ghost use lib.ListN.{length, take, drop};
 ghost use Rattle.text.specs.Bytes.{indexOf, indexOfText};
-ghost use Rattle.text.specs.Part.{IsPart, partOf, before, after, beforeText, afterText};
+ghost use Rattle.text.specs.Part.{IsPart, partOf, before, after, beforeText, afterText, trimEnd, trimmed, trimPlace};
 
 // The bytes from a up to e: an end past the length is the length, and a start past the end gives none.
 pub fn part(s: &[u8], a: usize, e: usize) -> &[u8]
@@ -49,4 +50,62 @@ pub fn before_text<'a>(s: &'a [u8], p: &[u8]) -> &'a [u8]
     ensures { λ r. ⌜ IsPart (s .entry) r 0 (beforeText (now (p .entry)) (now (s .entry))) ⌝ }
 {
     part(s, 0, bytes::find_text(s, p))
+}
+
+// The part after the first place where the text p stands, empty where there is none.
+pub fn after_text<'a>(s: &'a [u8], p: &[u8]) -> &'a [u8]
+    ensures { λ r. ⌜ IsPart (s .entry) r (indexOfText (now (p .entry)) (now (s .entry)) + length (now (p .entry))) (afterText (now (p .entry)) (now (s .entry))) ⌝ }
+{
+    let e = bytes::find_text(s, p);
+    if s.len() - e < p.len() {
+        return part(s, s.len(), s.len());
+    }
+    part(s, e + p.len(), s.len())
+}
+
+// How many bytes are left of s without those at its end that are a or b.
+fn end_of(s: &[u8], a: u8, b: u8) -> usize
+    ensures { λ r. ⌜ r ≡ length (trimEnd (a ∷ b ∷ []) (now (s .entry))) ⌝ }
+{
+    let mut e = s.len();
+    while 0 < e {
+        let x = s[e - 1];
+        if x == a {
+            e -= 1;
+        } else {
+            if x != b {
+                return e;
+            }
+            e -= 1;
+        }
+    }
+    0
+}
+
+// s without the bytes at its end that are a or b.
+pub fn trim_end(s: &[u8], a: u8, b: u8) -> &[u8]
+    ensures { λ r. ⌜ IsPart (s .entry) r 0 (trimEnd (a ∷ b ∷ []) (now (s .entry))) ⌝ }
+{
+    part(s, 0, end_of(s, a, b))
+}
+
+// Where s begins without the bs at its front; 0 where it has nothing else.
+pub fn trim_start(s: &[u8], b: u8) -> usize
+    ensures { λ r. ⌜ r ≡ trimPlace (b ∷ []) (now (s .entry)) ⌝ }
+{
+    let mut i = 0;
+    while i < s.len() {
+        if s[i] != b {
+            return i;
+        }
+        i += 1;
+    }
+    0
+}
+
+// s without the bs at both ends.
+pub fn trim(s: &[u8], b: u8) -> &[u8]
+    ensures { λ r. ⌜ IsPart (s .entry) r (trimPlace (b ∷ []) (now (s .entry))) (trimmed (b ∷ []) (now (s .entry))) ⌝ }
+{
+    part(s, trim_start(s, b), end_of(s, b, b))
 }

@@ -1,0 +1,119 @@
+-- Where a byte or a text stands in a line: one law for each turn and each exit of the loops that look for it. Assumes nothing.
+use mathlib.Core.Path.{_≡_, refl, ap, sym, _∙_}
+use mathlib.Core.Bool.{Bool, true, false, cond, _&&_}
+use mathlib.Core.List.{List, [], _∷_}
+use Prim.Native.Nat.{ℕ, suc, _+_, _-_, _≤_, _<_}
+use native.Mathlib.Nat.{add-zero}
+use native.Mathlib.Omega.{arith}
+use lib.ListN.{length, getD, drop, length-drop}
+use lib.Dec.{eqb, ltb}
+use borrow.Author.Tests.{eq-eqb, ne-eqb, lt-leb, le-leb}
+use Rattle.text.specs.Bytes.{startsWith, same, endsWith, indexOf, countOf, has, indexOfText, hasText, allDigits}
+use Rattle.text.proofs.Rest.{at-next, at-end}
+
+-- `find`
+module _ (s : List ℕ) (from b i : ℕ) (inv : from + indexOf b (drop from s) ≡ i + indexOf b (drop i s)) where
+  pub find-hit : i < length s → getD s i 0 ≡ b → i ≡ from + indexOf b (drop from s)
+  find-hit h e =
+      let z : indexOf b (drop i s) ≡ 0 = rw (at-next s i h, eq-eqb _ _ e) in
+      omega arith
+
+  pub find-miss : i < length s → (getD s i 0 ≡ b → ⊥) → from + indexOf b (drop from s) ≡ (i + 1) + indexOf b (drop (i + 1) s)
+  find-miss h e =
+      let z : indexOf b (drop i s) ≡ suc (indexOf b (drop (i + 1) s)) = rw (at-next s i h, ne-eqb _ _ e) in
+      omega arith
+
+  pub find-end : length s ≤ i → i ≡ from + indexOf b (drop from s)
+  find-end h =
+      let z : indexOf b (drop i s) ≡ 0 = rw (at-end s i h) in
+      omega arith
+
+pub has-is : (s : List ℕ) (b e : ℕ) → e ≡ 0 + indexOf b s → ltb e (length s) ≡ has b s
+has-is s b e q = let z : e ≡ indexOf b s = omega arith in rw z
+
+-- `count_byte`
+module _ (s : List ℕ) (b i n : ℕ) (inv : n + countOf b (drop i s) ≡ countOf b s) where
+  pub count-hit : i < length s → getD s i 0 ≡ b → (n + 1) + countOf b (drop (i + 1) s) ≡ countOf b s
+  count-hit h e =
+      let z : countOf b (drop i s) ≡ 1 + countOf b (drop (i + 1) s) = rw (at-next s i h, eq-eqb _ _ e) in
+      omega arith
+
+  pub count-miss : i < length s → (getD s i 0 ≡ b → ⊥) → n + countOf b (drop (i + 1) s) ≡ countOf b s
+  count-miss h e =
+      let z : countOf b (drop i s) ≡ 0 + countOf b (drop (i + 1) s) = rw (at-next s i h, ne-eqb _ _ e) in
+      omega arith
+
+  pub count-end : length s ≤ i → n ≡ countOf b s
+  count-end h = let z : countOf b (drop i s) ≡ 0 = rw (at-end s i h) in omega arith
+
+-- `all_digits`
+module _ (s : List ℕ) (i : ℕ) (inv : allDigits s ≡ allDigits (drop i s)) where
+  pub digits-low : i < length s → getD s i 0 < 48 → false ≡ allDigits s
+  digits-low h k = rw (inv, at-next s i h, lt-leb _ _ k)
+
+  pub digits-high : i < length s → 48 ≤ getD s i 0 → 57 < getD s i 0 → false ≡ allDigits s
+  digits-high h l k = rw (inv, at-next s i h, le-leb _ _ l, lt-leb _ _ k)
+
+  pub digits-more : i < length s → 48 ≤ getD s i 0 → getD s i 0 ≤ 57 → allDigits s ≡ allDigits (drop (i + 1) s)
+  digits-more h l k = rw (inv, at-next s i h, le-leb _ _ l, le-leb _ _ k)
+
+  pub digits-end : length s ≤ i → true ≡ allDigits s
+  digits-end h = rw (inv, at-end s i h)
+
+-- `stands_at`: the text p at `at`
+pub starts-long : (p t : List ℕ) → length t < length p → false ≡ startsWith p t
+starts-long [] t h = absurd (omega arith)
+starts-long (b ∷ p) [] h = refl
+starts-long (b ∷ p) (x ∷ t) h = rw (← starts-long p t (omega arith)) (none (eqb x b))
+  where
+    none : (t : Bool) → false ≡ t && false
+    none true = refl
+    none false = refl
+
+pub starts-room : (p s : List ℕ) (at : ℕ) → at ≤ length s → length s - at < length p → false ≡ startsWith p (drop at s)
+starts-room p s at h k = starts-long p (drop at s) (omega (arith, length-drop at s))
+
+pub starts-begin : (p s : List ℕ) (at : ℕ) → startsWith p (drop at s) ≡ startsWith (drop 0 p) (drop (at + 0) s)
+starts-begin p s at = rw (add-zero at)
+
+module _ (p s : List ℕ) (at i : ℕ) (room : at + length p ≤ length s) (inv : startsWith p (drop at s) ≡ startsWith (drop i p) (drop (at + i) s)) where
+  pub starts-other : i < length p → (getD s (at + i) 0 ≡ getD p i 0 → ⊥) → false ≡ startsWith p (drop at s)
+  starts-other h e = rw (inv, at-next p i h, at-next s (at + i) (omega arith), ne-eqb _ _ e)
+
+  pub starts-same : i < length p → getD s (at + i) 0 ≡ getD p i 0 → startsWith p (drop at s) ≡ startsWith (drop (i + 1) p) (drop (at + (i + 1)) s)
+  starts-same h e =
+      let z : at + (i + 1) ≡ at + i + 1 = omega arith in
+      rw (inv, at-next p i h, at-next s (at + i) (omega arith), eq-eqb _ _ e, z)
+
+  pub starts-end : length p ≤ i → true ≡ startsWith p (drop at s)
+  starts-end h = rw (inv, at-end p i h)
+
+-- `is_text` and `ends_with`
+pub same-length : (s t : List ℕ) (x : Bool) → length s ≡ length t → x ≡ startsWith t s → x ≡ same s t
+same-length s t x h e = rw (eq-eqb _ _ h) e
+
+pub other-length : (s t : List ℕ) → (length s ≡ length t → ⊥) → false ≡ same s t
+other-length s t h = rw (ne-eqb _ _ h)
+
+pub ends-short : (s p : List ℕ) → length s < length p → false ≡ endsWith p s
+ends-short s p h = other-length (drop (length s - length p) s) p (λ e. omega (arith, length-drop (length s - length p) s))
+
+pub ends-is : (s p : List ℕ) (x : Bool) → length p ≤ length s → x ≡ startsWith p (drop (length s - length p) s) → x ≡ endsWith p s
+ends-is s p x h e = same-length (drop (length s - length p) s) p x (omega (arith, length-drop (length s - length p) s)) e
+
+-- `find_text`
+module _ (p s : List ℕ) (i : ℕ) (inv : indexOfText p s ≡ i + indexOfText p (drop i s)) where
+  at-text : (x : Bool) → i < length s → x ≡ startsWith p (drop i s) → indexOfText p (drop i s) ≡ cond x 0 (suc (indexOfText p (drop (i + 1) s)))
+  at-text x h e = rw (e, at-next s i h)
+
+  pub text-hit : (x : Bool) → i < length s → x ≡ startsWith p (drop i s) → x ≡ true → i ≡ indexOfText p s
+  text-hit x h e k = let z : indexOfText p (drop i s) ≡ 0 = rw (at-text x h e, k) in omega arith
+
+  pub text-miss : (x : Bool) → i < length s → x ≡ startsWith p (drop i s) → x ≡ false → indexOfText p s ≡ (i + 1) + indexOfText p (drop (i + 1) s)
+  text-miss x h e k = let z : indexOfText p (drop i s) ≡ suc (indexOfText p (drop (i + 1) s)) = rw (at-text x h e, k) in omega arith
+
+  pub text-end : length s ≤ i → i ≡ indexOfText p s
+  text-end h = let z : indexOfText p (drop i s) ≡ 0 = rw (at-end s i h) in omega arith
+
+pub has-text-is : (s p : List ℕ) (e : ℕ) → e ≡ indexOfText p s → ltb e (length s) ≡ hasText p s
+has-text-is s p e q = rw q

@@ -1,0 +1,108 @@
+-- The steps of a reader: what the code tested, and what it learnt of a call, picks the case of its paper definition. Each premise is spelled
+-- as the code's test or the callee's promise has it, so that `search reader` closes a reader's answers. Assumes nothing.
+use mathlib.Core.Path.{_≡_, refl, ap, sym, _∙_}
+use mathlib.Core.Bool.{Bool, true, false, not}
+use mathlib.Core.List.{List, [], _∷_}
+use mathlib.Core.Option.{Option, none, some}
+use Prim.Native.Nat.{ℕ}
+use lib.Dec.{eqb}
+use borrow.Author.Tests.{eq-eqb, ne-eqb, not-true, not-false}
+use Rattle.text.specs.Bytes.{same, startsWith, endsWith, has}
+use Rattle.text.specs.Reading.{Reading, read, refused, only, either, need, mapped, worse, firstOf}
+
+module _ {A : Type 0} where
+  pub only-not : (t x : Bool) (r : Reading A) → x ≡ t → x ≡ false → refused 3 ≡ only t r
+  unfolding only
+  only-not t x r e h = rw (sym e ∙ h)
+
+  pub only-so : (t x : Bool) (r q : Reading A) → x ≡ t → x ≡ true → q ≡ r → q ≡ only t r
+  unfolding only
+  only-so t x r q e h p = rw (sym e ∙ h) p
+
+  pub either-so : (t x : Bool) (r u q : Reading A) → x ≡ t → x ≡ true → q ≡ r → q ≡ either t r u
+  unfolding either
+  either-so t x r u q e h p = rw (sym e ∙ h) p
+
+  pub either-not : (t x : Bool) (r u q : Reading A) → x ≡ t → x ≡ false → q ≡ u → q ≡ either t r u
+  unfolding either
+  either-not t x r u q e h p = rw (sym e ∙ h) p
+
+  -- the same, where the code tests the negation
+  pub unless-not : (t x : Bool) (r : Reading A) → x ≡ t → not x ≡ true → refused 3 ≡ only t r
+  unless-not t x r e h = only-not t x r e (not-true x h)
+
+  pub unless-so : (t x : Bool) (r q : Reading A) → x ≡ t → not x ≡ false → q ≡ r → q ≡ only t r
+  unless-so t x r q e h p = only-so t x r q e (not-false x h) p
+
+  -- a test of a count that the code has under the name k
+  module _ (k c n : ℕ) where
+    pub either-is : (r u q : Reading A) → k ≡ c → k ≡ n → q ≡ r → q ≡ either (eqb c n) r u
+    either-is r u q e h p = either-so (eqb c n) true r u q (sym (eq-eqb c n (sym e ∙ h))) refl p
+
+    pub either-else : (r u q : Reading A) → k ≡ c → (k ≡ n → ⊥) → q ≡ u → q ≡ either (eqb c n) r u
+    either-else r u q e h p = either-not (eqb c n) false r u q (sym (ne-eqb c n (λ z. h (e ∙ z)))) refl p
+
+    pub only-is : (r q : Reading A) → k ≡ c → k ≡ n → q ≡ r → q ≡ only (eqb c n) r
+    only-is r q e h p = only-so (eqb c n) true r q (sym (eq-eqb c n (sym e ∙ h))) refl p
+
+    pub only-else : (r : Reading A) → k ≡ c → (k ≡ n → ⊥) → refused 3 ≡ only (eqb c n) r
+    only-else r e h = only-not (eqb c n) false r (sym (ne-eqb c n (λ z. h (e ∙ z)))) refl
+
+module _ {A B : Type 0} where
+  pub need-not : (o : Option A) (f : A → Reading B) → none ≡ o → refused 3 ≡ need o f
+  unfolding need
+  need-not o f e = rw (sym e)
+
+  pub need-so : (o : Option A) (a : A) (f : A → Reading B) (q : Reading B) → some a ≡ o → q ≡ f a → q ≡ need o f
+  unfolding need
+  need-so o a f q e p = rw (sym e) p
+
+  -- an option that the code has as the answer r of an enum R, which f says on paper: given f, a constructor and how it is said
+  module _ {R : Type 0} (f : R → Option A) where
+    module _ {W : Type 0} (con : W → R) (val : W → A) (is : (w : W) → f (con w) ≡ some (val w)) where
+      pub got : (o : Option A) (g : A → Reading B) (r : R) (w : W) (q : Reading B) → f r ≡ o → r ≡ con w → q ≡ g (val w) → q ≡ need o g
+      got o g r w q h e p = need-so o (val w) g q (sym (is w) ∙ ap f (sym e) ∙ h) p
+
+    module _ (con : R) (is : f con ≡ none) where
+      pub lacked : (o : Option A) (g : A → Reading B) (r : R) → f r ≡ o → r ≡ con → refused 3 ≡ need o g
+      lacked o g r h e = need-not o g (sym is ∙ ap f (sym e) ∙ h)
+
+-- a test on a part that the code has under the name t
+pub same-via : (x : Bool) (t s p : List ℕ) → x ≡ same t p → t ≡ s → x ≡ same s p
+same-via x t s p e h = e ∙ ap (λ (l : List ℕ). same l p) h
+
+pub has-via : (x : Bool) (b : ℕ) (t s : List ℕ) → x ≡ has b t → t ≡ s → x ≡ has b s
+has-via x b t s e h = e ∙ ap (has b) h
+
+-- a paper function of a part that the code has under the name t
+pub via : {A : Type 0} (f : List ℕ → A) (q : A) (t s : List ℕ) → q ≡ f t → t ≡ s → q ≡ f s
+via f q t s e h = e ∙ ap f h
+
+pub ruleset reader =
+    (only-so, only-not, either-so, either-not, unless-so, unless-not, either-is, either-else, only-is, only-else, same-via, has-via)
+
+-- readers in order of trial: what the next one says decides
+module _ {A B : Type 0} (j : ℕ) (g : A → B) (x : Reading A) (rs : List (Reading B)) where
+  pub first-read : (a : A) → read a ≡ x → read (g a) ≡ firstOf j (mapped g x ∷ rs)
+  unfolding firstOf mapped
+  first-read a e = rw (sym e)
+
+  pub first-not : (k i : ℕ) (q : Reading B) → refused k ≡ x → i ≡ worse j k → q ≡ firstOf i rs → q ≡ firstOf j (mapped g x ∷ rs)
+  unfolding firstOf mapped
+  first-not k i q e w h = rw (sym e, ← w) h
+
+pub first-none : {B : Type 0} (j : ℕ) → _≡_ {A = Reading B} (refused j) (firstOf j [])
+unfolding firstOf
+first-none j = refl
+
+-- the same for a reader whose answer r is of an enum R, which f says on paper: given f, a constructor and how it is said
+module _ {R A B : Type 0} (f : R → Reading A) where
+  module _ {W : Type 0} (con : W → R) (val : W → A) (is : (v : W) → f (con v) ≡ read (val v)) where
+    pub tried : (j : ℕ) (g : A → B) (x : Reading A) (rs : List (Reading B)) (r : R) (v : W) (q : Reading B)
+        → f r ≡ x → r ≡ con v → q ≡ read (g (val v)) → q ≡ firstOf j (mapped g x ∷ rs)
+    tried j g x rs r v q h e z = z ∙ first-read j g x rs (val v) (sym (is v) ∙ ap f (sym e) ∙ h)
+
+  module _ (con : ℕ → R) (is : (k : ℕ) → f (con k) ≡ refused k) where
+    pub tried-not : (j : ℕ) (g : A → B) (x : Reading A) (rs : List (Reading B)) (r : R) (k i : ℕ) (q : Reading B)
+        → f r ≡ x → r ≡ con k → i ≡ worse j k → q ≡ firstOf i rs → q ≡ firstOf j (mapped g x ∷ rs)
+    tried-not j g x rs r k i q h e w z = first-not j g x rs k i q (sym (is k) ∙ ap f (sym e) ∙ h) w z

@@ -1,0 +1,50 @@
+-- The loop's invariant: what is looked for behind `from` is looked for behind `i`. Assumes nothing.
+use Rattle.text.proofs.bytes.find.Statement.{statement}
+use Rattle.text.proofs.bytes.find.Tie as tie
+use mathlib.Core.Path.{_≡_}
+use Prim.Native.Nat.{_+_, _-_}
+use lib.ListN.{length, drop}
+use borrow.Author.Needs.{needs}
+use Rattle.text.specs.Bytes.{indexOf}
+use Rattle.text.proofs.Finding.{find-hit, find-miss, find-end}
+
+abbrev Inv-loop : tie.InvT-loop
+Inv-loop s from b i₀ i = from + indexOf b (drop from s) ≡ i + indexOf b (drop i s)
+
+abbrev μ-loop : tie.MeasureT-loop
+μ-loop s from b i₀ i = length s - i
+
+loop-holds : tie.Need-loop-holds Inv-loop μ-loop
+loop-holds c = search needs
+
+shared-slice-read-if1 : tie.Need-shared-slice-read-if1 Inv-loop μ-loop
+shared-slice-read-if1 c = search needs
+
+returns : tie.Need-returns Inv-loop μ-loop
+returns c = search (needs, find-hit)
+
+add-i : tie.Need-add-i Inv-loop μ-loop
+add-i c = search needs
+
+loop-less : tie.Need-loop-less Inv-loop μ-loop
+loop-less c = search needs
+
+loop-again : tie.Need-loop-again Inv-loop μ-loop
+loop-again c = search (needs, find-miss)
+
+returns-2 : tie.Need-returns-2 Inv-loop μ-loop
+returns-2 c = search (needs, find-end)
+
+pub find-spec : {M : Type 1} → statement M
+find-spec =
+    tie.close
+    (tie.spec
+    Inv-loop
+    μ-loop
+    loop-holds
+    shared-slice-read-if1
+    returns
+    add-i
+    loop-less
+    loop-again
+    returns-2)
