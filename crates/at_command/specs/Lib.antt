@@ -1,0 +1,2 @@
+pub mod Cmgf
+pub mod says
