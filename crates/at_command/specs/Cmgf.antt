@@ -1,13 +1,13 @@
--- +CMGF (TS 27.005, 3.2.3; cmgf.rs): the message format, 0 or 1, as a text.
+-- +CMGF (document 01, "+CMGF, +CMGR"; cmgf.rs; TS 27.005, 3.2.3): the message format, 0 or 1.
 use Prim.Native.Nat.{ℕ}
-use mathlib.Core.List.{List}
+use mathlib.Core.List.{List, [], _∷_}
 use lib.ListN.{drop}
-use Rattle.text.specs.Bytes.{bytes, same, startsWith}
-use Rattle.text.specs.Reading.{Reading, read, refused, only, either}
+use Rattle.text.specs.Bytes.{bytes, startsWith}
+use Rattle.text.specs.Code.{Entry, is, codeIn}
+use Rattle.text.specs.Reading.{Reading, read, only, need}
 
--- the rest of the line is one of the two texts
-unfoldable pub cmgfCode : List ℕ → Reading ℕ
-cmgfCode t = either (same t (bytes "0")) (read 0) (only (same t (bytes "1")) (read 1))
+abbrev pub messageFormats : List Entry
+messageFormats = is "0" 0 ∷ is "1" 1 ∷ []
 
 unfoldable pub cmgfText : List ℕ → Reading ℕ
-cmgfText s = only (startsWith (bytes "+CMGF: ") s) (cmgfCode (drop 7 s))
+cmgfText s = only (startsWith (bytes "+CMGF: ") s) (need (codeIn messageFormats (drop 7 s)) (λ f. read f))

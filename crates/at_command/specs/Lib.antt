@@ -1,2 +1,10 @@
+pub mod Ccid
 pub mod Cmgf
+pub mod Cmgr
+pub mod Cntp
+pub mod Cops
+pub mod Cpsi
+pub mod Generic
+pub mod Gsn
+pub mod Httptofs
 pub mod says

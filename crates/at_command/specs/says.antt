@@ -1,1 +1,2 @@
 pub mod Cmgf
+pub mod Cpsi

@@ -2,8 +2,9 @@
 use text::bytes;
 use text::part;
 ghost use mathlib.Core.Path.{_≡_};
-ghost use Rattle.at_command.specs.Cmgf.{cmgfText};
-ghost use Rattle.at_command.specs.says.Cmgf.{formatSays};
+ghost use Rattle.text.specs.Code.{codeIn};
+ghost use Rattle.at_command.specs.Cmgf.{messageFormats, cmgfText};
+ghost use Rattle.at_command.specs.says.Cmgf.{says, codeSays};
 
 pub enum SmsMessageFormat {
     Pdu,
@@ -15,21 +16,33 @@ pub enum SmsMessageFormatAnswer {
     Refused(u8),
 }
 
+enum FormatCode {
+    Is(SmsMessageFormat),
+    Not,
+}
+
+fn format_of(t: &[u8]) -> FormatCode
+    ensures { λ r. ⌜ codeSays r ≡ codeIn messageFormats (now (t .entry)) ⌝ }
+{
+    if bytes::is_text(t, b"0") {
+        return FormatCode::Is(SmsMessageFormat::Pdu);
+    }
+    if bytes::is_text(t, b"1") {
+        return FormatCode::Is(SmsMessageFormat::Text);
+    }
+    FormatCode::Not
+}
+
 impl SmsMessageFormat {
-    // Reads a line that has passed the line check.
     pub(crate) fn from_checked(line: &[u8]) -> SmsMessageFormatAnswer
-        ensures { λ r. ⌜ formatSays r ≡ cmgfText (now (line .entry)) ⌝ }
+        ensures { λ r. ⌜ says r ≡ cmgfText (now (line .entry)) ⌝ }
     {
         if !bytes::starts_with(line, b"+CMGF: ") {
             return SmsMessageFormatAnswer::Refused(3);
         }
-        let rest = part::skip(line, 7);
-        if bytes::is_text(rest, b"0") {
-            return SmsMessageFormatAnswer::Value(SmsMessageFormat::Pdu);
-        }
-        if bytes::is_text(rest, b"1") {
-            return SmsMessageFormatAnswer::Value(SmsMessageFormat::Text);
-        }
-        SmsMessageFormatAnswer::Refused(3)
+        let FormatCode::Is(format) = format_of(part::skip(line, 7)) else {
+            return SmsMessageFormatAnswer::Refused(3);
+        };
+        SmsMessageFormatAnswer::Value(format)
     }
 }

@@ -1,2 +1,3 @@
 // The modem's commands and the responses to them, a module for each file of the Rust's at_command.
 pub mod cmgf;
+pub mod cpsi;

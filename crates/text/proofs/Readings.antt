@@ -1,14 +1,16 @@
 -- The steps of a reader: what the code tested, and what it learnt of a call, picks the case of its paper definition. Each premise is spelled
 -- as the code's test or the callee's promise has it, so that `search reader` closes a reader's answers. Assumes nothing.
-use mathlib.Core.Path.{_≡_, refl, ap, sym, _∙_}
+use mathlib.Core.Path.{_≡_, refl, ap, sym, _∙_, subst}
 use mathlib.Core.Bool.{Bool, true, false, not}
 use mathlib.Core.List.{List, [], _∷_}
 use mathlib.Core.Option.{Option, none, some}
-use Prim.Native.Nat.{ℕ}
-use lib.Dec.{eqb}
-use borrow.Author.Tests.{eq-eqb, ne-eqb, not-true, not-false}
+use Prim.Native.Nat.{ℕ, _≤_, _<_}
+use lib.Dec.{eqb, leb}
+use lib.ListN.{length}
+use borrow.Author.Tests.{eq-eqb, ne-eqb, le-leb, lt-leb, not-true, not-false}
 use Rattle.text.specs.Bytes.{same, startsWith, endsWith, has}
-use Rattle.text.specs.Reading.{Reading, read, refused, only, either, need, mapped, worse, firstOf}
+use Rattle.text.specs.Code.{Entry, codeIn}
+use Rattle.text.specs.Reading.{Reading, read, refused, only, either, need, fitting, mapped, worse, firstOf}
 
 module _ {A : Type 0} where
   pub only-not : (t x : Bool) (r : Reading A) → x ≡ t → x ≡ false → refused 3 ≡ only t r
@@ -48,6 +50,22 @@ module _ {A : Type 0} where
     pub only-else : (r : Reading A) → k ≡ c → (k ≡ n → ⊥) → refused 3 ≡ only (eqb c n) r
     only-else r e h = only-not (eqb c n) false r (sym (ne-eqb c n (λ z. h (e ∙ z)))) refl
 
+    pub only-least : (r q : Reading A) → k ≡ c → n ≤ k → q ≡ r → q ≡ only (leb n c) r
+    only-least r q e h p = only-so (leb n c) true r q (sym (le-leb n c (subst (λ (m : ℕ). n ≤ m) e h))) refl p
+
+    pub only-under : (r : Reading A) → k ≡ c → k < n → refused 3 ≡ only (leb n c) r
+    only-under r e h = only-not (leb n c) false r (sym (lt-leb n c (subst (λ (m : ℕ). m < n) e h))) refl
+
+  -- a text that fits, and one that is too long, which the code has under the name t
+  module _ (n : ℕ) (t s : List ℕ) (r : Reading A) where
+    pub fits : (q : Reading A) → t ≡ s → length t ≤ n → q ≡ r → q ≡ fitting n s r
+    unfolding fitting
+    fits q e h p = rw (sym e, le-leb _ _ h) p
+
+    pub too-long : t ≡ s → n < length t → refused 4 ≡ fitting n s r
+    unfolding fitting
+    too-long e h = rw (sym e, lt-leb _ _ h)
+
 module _ {A B : Type 0} where
   pub need-not : (o : Option A) (f : A → Reading B) → none ≡ o → refused 3 ≡ need o f
   unfolding need
@@ -57,15 +75,16 @@ module _ {A B : Type 0} where
   unfolding need
   need-so o a f q e p = rw (sym e) p
 
-  -- an option that the code has as the answer r of an enum R, which f says on paper: given f, a constructor and how it is said
-  module _ {R : Type 0} (f : R → Option A) where
-    module _ {W : Type 0} (con : W → R) (val : W → A) (is : (w : W) → f (con w) ≡ some (val w)) where
-      pub got : (o : Option A) (g : A → Reading B) (r : R) (w : W) (q : Reading B) → f r ≡ o → r ≡ con w → q ≡ g (val w) → q ≡ need o g
-      got o g r w q h e p = need-so o (val w) g q (sym (is w) ∙ ap f (sym e) ∙ h) p
+-- what the code has as the answer r of an enum R to a part t, and the paper as h of the same part s: given how f says r, h, a constructor and how
+-- that is said
+module _ {R A B : Type 0} (f : R → Option A) (h : List ℕ → Option A) where
+  module _ {W : Type 0} (con : W → R) (val : W → A) (is : (w : W) → f (con w) ≡ some (val w)) where
+    pub got : (t s : List ℕ) (g : A → Reading B) (r : R) (w : W) (q : Reading B) → f r ≡ h t → t ≡ s → r ≡ con w → q ≡ g (val w) → q ≡ need (h s) g
+    got t s g r w q k z e p = need-so (h s) (val w) g q (sym (is w) ∙ ap f (sym e) ∙ k ∙ ap h z) p
 
-    module _ (con : R) (is : f con ≡ none) where
-      pub lacked : (o : Option A) (g : A → Reading B) (r : R) → f r ≡ o → r ≡ con → refused 3 ≡ need o g
-      lacked o g r h e = need-not o g (sym is ∙ ap f (sym e) ∙ h)
+  module _ (con : R) (is : f con ≡ none) where
+    pub lacked : (t s : List ℕ) (g : A → Reading B) (r : R) → f r ≡ h t → t ≡ s → r ≡ con → refused 3 ≡ need (h s) g
+    lacked t s g r k z e = need-not (h s) g (sym is ∙ ap f (sym e) ∙ k ∙ ap h z)
 
 -- a test on a part that the code has under the name t
 pub same-via : (x : Bool) (t s p : List ℕ) → x ≡ same t p → t ≡ s → x ≡ same s p
@@ -78,8 +97,19 @@ has-via x b t s e h = e ∙ ap (has b) h
 pub via : {A : Type 0} (f : List ℕ → A) (q : A) (t s : List ℕ) → q ≡ f t → t ≡ s → q ≡ f s
 via f q t s e h = e ∙ ap f h
 
+-- a code that the text is, and one that it is not
+module _ (t p : List ℕ) (n : ℕ) (es : List Entry) (x : Bool) where
+  pub code-is : (o : Option ℕ) → x ≡ same t p → x ≡ true → o ≡ some n → o ≡ codeIn (record { text = p; number = n } ∷ es) t
+  code-is o e h k = let z : same t p ≡ true = sym e ∙ h in rw z k
+
+  pub code-not : (o : Option ℕ) → x ≡ same t p → x ≡ false → o ≡ codeIn es t → o ≡ codeIn (record { text = p; number = n } ∷ es) t
+  code-not o e h k = let z : same t p ≡ false = sym e ∙ h in rw z k
+
+pub code-none : (t : List ℕ) → none ≡ codeIn [] t
+code-none t = refl
+
 pub ruleset reader =
-    (only-so, only-not, either-so, either-not, unless-so, unless-not, either-is, either-else, only-is, only-else, same-via, has-via)
+    (only-so, only-not, either-so, either-not, unless-so, unless-not, either-is, either-else, only-is, only-else, only-least, only-under, fits, too-long, same-via, has-via, code-is, code-not, code-none)
 
 -- readers in order of trial: what the next one says decides
 module _ {A B : Type 0} (j : ℕ) (g : A → B) (x : Reading A) (rs : List (Reading B)) where

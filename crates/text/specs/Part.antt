@@ -21,6 +21,15 @@ pub record IsPart (s t : RefT (List ℕ)) (a : ℕ) (text : List ℕ) : Type 0 w
   pub bytes : now t ≡ text
   pub place : ptr t ≡ (ptr s .0, inside (now s) a + ptr s .1)
 
+-- where a text stands in its line
+pub record Span : Type 0 where
+  pub start : ℕ
+  pub end : ℕ
+
+-- the span of a text that begins at a
+abbrev pub spanOf : ℕ → List ℕ → Span
+spanOf a text = record { start = a; end = a + length text }
+
 -- what stands before the first b, all of the line where it has none; and what after it, nothing where it has none
 abbrev pub before : ℕ → List ℕ → List ℕ
 before b s = take (indexOf b s) s

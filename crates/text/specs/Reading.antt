@@ -3,13 +3,17 @@ use Prim.Native.Nat.{ℕ}
 use mathlib.Core.Bool.{Bool, true, false, cond}
 use mathlib.Core.List.{List, [], _∷_}
 use mathlib.Core.Option.{Option, none, some}
-use lib.Dec.{ltb, eqb}
+use lib.Dec.{leb, eqb}
 use lib.ListN.{length}
 
 -- a value, or the number of the refusal
 pub data Reading (A : Type 0) : Type 0 where
   read : A → Reading A
   refused : ℕ → Reading A
+
+-- what a line says that says no more than what it is
+pub data Mark : Type 0 where
+  mark : Mark
 
 module _ {A : Type 0} where
   -- the reading where the test passes, else refusal 3
@@ -19,6 +23,10 @@ module _ {A : Type 0} where
   -- the first reading where the test passes, else the second
   unfoldable pub either : Bool → Reading A → Reading A → Reading A
   either t r q = cond t r q
+
+  -- the reading where the text has at most n bytes, else refusal 4
+  unfoldable pub fitting : ℕ → List ℕ → Reading A → Reading A
+  fitting n t r = cond (leb (length t) n) r (refused 4)
 
 module _ {A B : Type 0} where
   -- what f reads with the value, which is there, else refusal 3

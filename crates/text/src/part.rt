@@ -7,6 +7,12 @@ ghost use lib.ListN.{length, take, drop};
 ghost use Rattle.text.specs.Bytes.{indexOf, indexOfText};
 ghost use Rattle.text.specs.Part.{IsPart, partOf, before, after, beforeText, afterText, trimEnd, trimmed, trimPlace};
 
+// Where a text stands in its line.
+pub struct Place {
+    pub start: usize,
+    pub end: usize,
+}
+
 // The bytes from a up to e: an end past the length is the length, and a start past the end gives none.
 pub fn part(s: &[u8], a: usize, e: usize) -> &[u8]
     ensures { λ r. ⌜ IsPart (s .entry) r a (partOf (now (s .entry)) a e) ⌝ }

@@ -1,8 +1,11 @@
 -- What the answers of cmgf say on paper.
 use Prim.Native.Nat.{ℕ}
+use mathlib.Core.Option.{Option, none, some}
 use Rattle.text.specs.Reading.{Reading, read, refused}
 use Rattle.at_command.specs.declared.cmgf.SmsMessageFormat.{SmsMessageFormat}
 use Rattle.at_command.specs.declared.cmgf.SmsMessageFormat.the-variants.{Pdu, Text}
+use Rattle.at_command.specs.declared.cmgf.FormatCode.{FormatCode}
+use Rattle.at_command.specs.declared.cmgf.FormatCode.the-variants.{Is, Not}
 use Rattle.at_command.specs.declared.cmgf.SmsMessageFormatAnswer.{SmsMessageFormatAnswer}
 use Rattle.at_command.specs.declared.cmgf.SmsMessageFormatAnswer.the-variants.{Value, Refused}
 
@@ -10,6 +13,10 @@ abbrev pub formatNumber : SmsMessageFormat → ℕ
 formatNumber Pdu = 0
 formatNumber Text = 1
 
-abbrev pub formatSays : SmsMessageFormatAnswer → Reading ℕ
-formatSays (Value f) = read (formatNumber f)
-formatSays (Refused k) = refused k
+abbrev pub codeSays : FormatCode → Option ℕ
+codeSays (Is f) = some (formatNumber f)
+codeSays Not = none
+
+abbrev pub says : SmsMessageFormatAnswer → Reading ℕ
+says (Value f) = read (formatNumber f)
+says (Refused k) = refused k

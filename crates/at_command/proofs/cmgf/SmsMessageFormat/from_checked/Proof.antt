@@ -1,8 +1,14 @@
 use borrow.Author.Needs.{needs}
 use Rattle.at_command.proofs.cmgf.SmsMessageFormat.from_checked.Statement.{statement}
 use Rattle.at_command.proofs.cmgf.SmsMessageFormat.from_checked.Tie as tie
-use Rattle.text.proofs.Readings.{reader}
-use Rattle.at_command.specs.Cmgf.{cmgfText, cmgfCode}
+use mathlib.Core.Path.{refl}
+use Rattle.text.proofs.Readings.{reader, got, lacked}
+use Rattle.at_command.specs.Cmgf.{cmgfText}
+use Rattle.at_command.specs.says.Cmgf.{codeSays, formatNumber}
+use Rattle.at_command.specs.declared.cmgf.FormatCode.the-variants.{Is, Not}
+use Prim.Native.Nat.{ℕ}
+use Rattle.text.specs.Code.{codeIn}
+use Rattle.at_command.specs.Cmgf.{messageFormats, cmgfText}
 
 slice-aggregate-starts-with : tie.Need-slice-aggregate-starts-with
 slice-aggregate-starts-with c = search needs
@@ -11,35 +17,28 @@ starts-with-requires : tie.Need-starts-with-requires
 starts-with-requires c κs = search needs
 
 returns : tie.Need-returns
-unfolding cmgfText cmgfCode
-returns c = search reader
+unfolding cmgfText
+returns c = search (reader, got {B = ℕ} codeSays (codeIn messageFormats) Is formatNumber (λ f. refl), lacked {B = ℕ} codeSays (codeIn messageFormats) Not refl)
 
 skip-requires : tie.Need-skip-requires
 skip-requires c κs = search needs
 
-slice-aggregate-is-text : tie.Need-slice-aggregate-is-text
-slice-aggregate-is-text c = search needs
+format-of-requires : tie.Need-format-of-requires
+format-of-requires c κs = search needs
 
-is-text-requires : tie.Need-is-text-requires
-is-text-requires c κs = search needs
+enum-known-format : tie.Need-enum-known-format
+enum-known-format c = search needs
+
+enum-told : tie.Need-enum-told
+enum-told c = search needs
 
 returns-2 : tie.Need-returns-2
-unfolding cmgfText cmgfCode
-returns-2 c = search reader
-
-slice-aggregate-is-text-2 : tie.Need-slice-aggregate-is-text-2
-slice-aggregate-is-text-2 c = search needs
-
-is-text-requires-2 : tie.Need-is-text-requires-2
-is-text-requires-2 c κs = search needs
+unfolding cmgfText
+returns-2 c = search (reader, got {B = ℕ} codeSays (codeIn messageFormats) Is formatNumber (λ f. refl), lacked {B = ℕ} codeSays (codeIn messageFormats) Not refl)
 
 returns-3 : tie.Need-returns-3
-unfolding cmgfText cmgfCode
-returns-3 c = search reader
-
-returns-4 : tie.Need-returns-4
-unfolding cmgfText cmgfCode
-returns-4 c = search reader
+unfolding cmgfText
+returns-3 c = search (reader, got {B = ℕ} codeSays (codeIn messageFormats) Is formatNumber (λ f. refl), lacked {B = ℕ} codeSays (codeIn messageFormats) Not refl)
 
 pub from-checked-spec : {M : Type 1} → statement M
 from-checked-spec =
@@ -49,10 +48,8 @@ from-checked-spec =
     starts-with-requires
     returns
     skip-requires
-    slice-aggregate-is-text
-    is-text-requires
+    format-of-requires
+    enum-known-format
+    enum-told
     returns-2
-    slice-aggregate-is-text-2
-    is-text-requires-2
-    returns-3
-    returns-4)
+    returns-3)

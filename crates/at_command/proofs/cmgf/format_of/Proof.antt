@@ -1,0 +1,37 @@
+use borrow.Author.Needs.{needs}
+use Rattle.at_command.proofs.cmgf.format_of.Statement.{statement}
+use Rattle.at_command.proofs.cmgf.format_of.Tie as tie
+use Rattle.text.proofs.Readings.{reader}
+
+slice-aggregate-is-text : tie.Need-slice-aggregate-is-text
+slice-aggregate-is-text c = search needs
+
+is-text-requires : tie.Need-is-text-requires
+is-text-requires c κs = search needs
+
+returns : tie.Need-returns
+returns c = search (needs, reader)
+
+slice-aggregate-is-text-2 : tie.Need-slice-aggregate-is-text-2
+slice-aggregate-is-text-2 c = search needs
+
+is-text-requires-2 : tie.Need-is-text-requires-2
+is-text-requires-2 c κs = search needs
+
+returns-2 : tie.Need-returns-2
+returns-2 c = search (needs, reader)
+
+returns-3 : tie.Need-returns-3
+returns-3 c = search (needs, reader)
+
+pub format-of-spec : {M : Type 1} → statement M
+format-of-spec =
+    tie.close
+    (tie.spec
+    slice-aggregate-is-text
+    is-text-requires
+    returns
+    slice-aggregate-is-text-2
+    is-text-requires-2
+    returns-2
+    returns-3)

@@ -1,0 +1,31 @@
+-- The final lines (document 01, "Final lines"; generic_response.rs): result codes of V.250, 5.7, and the error codes of TS 27.007, 9.1, and TS 27.005, 3.2.5.
+use Prim.Native.Nat.{ℕ, _-_}
+use mathlib.Core.List.{List}
+use lib.ListN.{length, take, drop}
+use Rattle.text.specs.Bytes.{bytes, same, startsWith, endsWith}
+use Rattle.text.specs.Number.{unsigned}
+use Rattle.text.specs.Reading.{Reading, read, refused, Mark, mark, only, either, need}
+
+-- OK and SHUT OK are GenericOk
+unfoldable pub okText : List ℕ → Reading Mark
+okText s = either (same s (bytes "OK")) (read mark) (only (same s (bytes "SHUT OK")) (read mark))
+
+-- "ERROR", and "+CME ERROR: " or "+CMS ERROR: " with a u32
+pub data Fault : Type 0 where
+  generic : Fault
+  cme : ℕ → Fault
+  cms : ℕ → Fault
+
+unfoldable pub errorText : List ℕ → Reading Fault
+errorText s =
+    either (startsWith (bytes "+CME ERROR: ") s) (need (unsigned 10 4294967295 (drop 12 s)) (λ n. read (cme n)))
+    (either (startsWith (bytes "+CMS ERROR: ") s) (need (unsigned 10 4294967295 (drop 12 s)) (λ n. read (cms n)))
+    (only (same s (bytes "ERROR")) (read generic)))
+
+-- "> " exactly
+unfoldable pub promptText : List ℕ → Reading Mark
+promptText s = only (same s (bytes "> ")) (read mark)
+
+-- the number before ", CLOSE OK", read to 64 bits
+unfoldable pub closeText : List ℕ → Reading ℕ
+closeText s = only (endsWith (bytes ", CLOSE OK") s) (need (unsigned 10 18446744073709551615 (take (length s - 10) s)) (λ n. read n))
