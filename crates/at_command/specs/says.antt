@@ -1,2 +1,5 @@
 pub mod Cmgf
+pub mod Cmgr
+pub mod Cntp
+pub mod Cops
 pub mod Cpsi

@@ -1,3 +1,7 @@
 // The modem's commands and the responses to them, a module for each file of the Rust's at_command.
 pub mod cmgf;
+pub mod cmgr;
+pub mod cntp;
+pub mod cops;
 pub mod cpsi;
+mod unquoted;

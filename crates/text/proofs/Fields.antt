@@ -114,6 +114,21 @@ module _ (b : ℕ) where
       (λ h. rw (place-has s n h, ← drop-drop, fields-has s h) (rest-bytes n (after b s)))
       (λ h. rw (place-not s n h, fields-not s h, at-end s (length s + 1) (omega arith)) (from-nil n))
 
+  -- a field lies in the line
+  pub field-in : (n : ℕ) (s : List ℕ) → n < length (fields b s) → placeOf n (fields b s) + length (nth n (fields b s)) ≤ length s
+  field-in zero s h =
+      split s
+      (λ k. rw (fields-has s k, before-length s) (omega (arith, index-le b s)))
+      (λ k. rw (fields-not s k) (omega arith))
+  field-in (suc n) s h =
+      split s
+      (λ k.
+        let l : n < length (fields b (after b s)) = let z = ap length (fields-has s k) in omega arith in
+        let i = field-in n (after b s) l in
+        let d = length-drop (indexOf b s + 1) s in
+        rw (place-has s n k, fields-has s k) (omega arith))
+      (λ k. absurd (let z = ap length (fields-not s k) in omega arith))
+
 -- `field_start`
 module _ (s : List ℕ) (b n at k : ℕ) (inv : placeOf n (fields b s) ≡ at + placeOf (n - k) (fields b (drop at s))) where
   later : k < n → n - k ≡ suc (n - (k + 1))

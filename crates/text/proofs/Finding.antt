@@ -29,6 +29,7 @@ module _ (s : List ℕ) (from b i : ℕ) (inv : from + indexOf b (drop from s) �
       omega arith
 
 pub has-is : (s : List ℕ) (b e : ℕ) → e ≡ 0 + indexOf b s → ltb e (length s) ≡ has b s
+unfolding has
 has-is s b e q = let z : e ≡ indexOf b s = omega arith in rw z
 
 -- `count_byte`
@@ -62,6 +63,7 @@ module _ (s : List ℕ) (i : ℕ) (inv : allDigits s ≡ allDigits (drop i s)) w
 
 -- `stands_at`: the text p at `at`
 pub starts-long : (p t : List ℕ) → length t < length p → false ≡ startsWith p t
+unfolding startsWith
 starts-long [] t h = absurd (omega arith)
 starts-long (b ∷ p) [] h = refl
 starts-long (b ∷ p) (x ∷ t) h = rw (← starts-long p t (omega arith)) (none (eqb x b))
@@ -78,27 +80,34 @@ starts-begin p s at = rw (add-zero at)
 
 module _ (p s : List ℕ) (at i : ℕ) (room : at + length p ≤ length s) (inv : startsWith p (drop at s) ≡ startsWith (drop i p) (drop (at + i) s)) where
   pub starts-other : i < length p → (getD s (at + i) 0 ≡ getD p i 0 → ⊥) → false ≡ startsWith p (drop at s)
+  unfolding startsWith
   starts-other h e = rw (inv, at-next p i h, at-next s (at + i) (omega arith), ne-eqb _ _ e)
 
   pub starts-same : i < length p → getD s (at + i) 0 ≡ getD p i 0 → startsWith p (drop at s) ≡ startsWith (drop (i + 1) p) (drop (at + (i + 1)) s)
+  unfolding startsWith
   starts-same h e =
       let z : at + (i + 1) ≡ at + i + 1 = omega arith in
       rw (inv, at-next p i h, at-next s (at + i) (omega arith), eq-eqb _ _ e, z)
 
   pub starts-end : length p ≤ i → true ≡ startsWith p (drop at s)
+  unfolding startsWith
   starts-end h = rw (inv, at-end p i h)
 
 -- `is_text` and `ends_with`
 pub same-length : (s t : List ℕ) (x : Bool) → length s ≡ length t → x ≡ startsWith t s → x ≡ same s t
+unfolding same
 same-length s t x h e = rw (eq-eqb _ _ h) e
 
 pub other-length : (s t : List ℕ) → (length s ≡ length t → ⊥) → false ≡ same s t
+unfolding same
 other-length s t h = rw (ne-eqb _ _ h)
 
 pub ends-short : (s p : List ℕ) → length s < length p → false ≡ endsWith p s
+unfolding endsWith
 ends-short s p h = other-length (drop (length s - length p) s) p (λ e. omega (arith, length-drop (length s - length p) s))
 
 pub ends-is : (s p : List ℕ) (x : Bool) → length p ≤ length s → x ≡ startsWith p (drop (length s - length p) s) → x ≡ endsWith p s
+unfolding endsWith
 ends-is s p x h e = same-length (drop (length s - length p) s) p x (omega (arith, length-drop (length s - length p) s)) e
 
 -- `find_text`
@@ -116,4 +125,5 @@ module _ (p s : List ℕ) (i : ℕ) (inv : indexOfText p s ≡ i + indexOfText p
   text-end h = let z : indexOfText p (drop i s) ≡ 0 = rw (at-end s i h) in omega arith
 
 pub has-text-is : (s p : List ℕ) (e : ℕ) → e ≡ indexOfText p s → ltb e (length s) ≡ hasText p s
+unfolding hasText
 has-text-is s p e q = rw q

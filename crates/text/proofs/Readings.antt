@@ -9,6 +9,8 @@ use lib.Dec.{eqb, leb}
 use lib.ListN.{length}
 use borrow.Author.Tests.{eq-eqb, ne-eqb, le-leb, lt-leb, not-true, not-false}
 use Rattle.text.specs.Bytes.{same, startsWith, endsWith, has}
+use Rattle.text.specs.Part.{before, after, trimmed}
+use Rattle.text.specs.Field.{fields, nth}
 use Rattle.text.specs.Code.{Entry, codeIn}
 use Rattle.text.specs.Reading.{Reading, read, refused, only, either, need, fitting, mapped, worse, firstOf}
 
@@ -35,6 +37,12 @@ module _ {A : Type 0} where
 
   pub unless-so : (t x : Bool) (r q : Reading A) → x ≡ t → not x ≡ false → q ≡ r → q ≡ only t r
   unless-so t x r q e h p = only-so t x r q e (not-false x h) p
+
+  pub otherwise-so : (t x : Bool) (r u q : Reading A) → x ≡ t → not x ≡ false → q ≡ r → q ≡ either t r u
+  otherwise-so t x r u q e h p = either-so t x r u q e (not-false x h) p
+
+  pub otherwise-not : (t x : Bool) (r u q : Reading A) → x ≡ t → not x ≡ true → q ≡ u → q ≡ either t r u
+  otherwise-not t x r u q e h p = either-not t x r u q e (not-true x h) p
 
   -- a test of a count that the code has under the name k
   module _ (k c n : ℕ) where
@@ -93,6 +101,21 @@ same-via x t s p e h = e ∙ ap (λ (l : List ℕ). same l p) h
 pub has-via : (x : Bool) (b : ℕ) (t s : List ℕ) → x ≡ has b t → t ≡ s → x ≡ has b s
 has-via x b t s e h = e ∙ ap (has b) h
 
+pub before-via : (p : List ℕ) (b : ℕ) (t s : List ℕ) → p ≡ before b t → t ≡ s → p ≡ before b s
+before-via p b t s e h = e ∙ ap (before b) h
+
+pub after-via : (p : List ℕ) (b : ℕ) (t s : List ℕ) → p ≡ after b t → t ≡ s → p ≡ after b s
+after-via p b t s e h = e ∙ ap (after b) h
+
+pub count-via : (k b : ℕ) (t s : List ℕ) → k ≡ length (fields b t) → t ≡ s → k ≡ length (fields b s)
+count-via k b t s e h = e ∙ ap (λ (l : List ℕ). length (fields b l)) h
+
+pub field-via : (p : List ℕ) (b n : ℕ) (t s : List ℕ) → p ≡ nth n (fields b t) → t ≡ s → p ≡ nth n (fields b s)
+field-via p b n t s e h = e ∙ ap (λ (l : List ℕ). nth n (fields b l)) h
+
+pub trim-via : (p bs t s : List ℕ) → p ≡ trimmed bs t → t ≡ s → p ≡ trimmed bs s
+trim-via p bs t s e h = e ∙ ap (trimmed bs) h
+
 -- a paper function of a part that the code has under the name t
 pub via : {A : Type 0} (f : List ℕ → A) (q : A) (t s : List ℕ) → q ≡ f t → t ≡ s → q ≡ f s
 via f q t s e h = e ∙ ap f h
@@ -109,7 +132,7 @@ pub code-none : (t : List ℕ) → none ≡ codeIn [] t
 code-none t = refl
 
 pub ruleset reader =
-    (only-so, only-not, either-so, either-not, unless-so, unless-not, either-is, either-else, only-is, only-else, only-least, only-under, fits, too-long, same-via, has-via, code-is, code-not, code-none)
+    (only-so, only-not, either-so, either-not, unless-so, unless-not, otherwise-so, otherwise-not, either-is, either-else, only-is, only-else, only-least, only-under, fits, too-long, same-via, has-via, before-via, after-via, count-via, field-via, trim-via, code-is, code-not, code-none)
 
 -- readers in order of trial: what the next one says decides
 module _ {A B : Type 0} (j : ℕ) (g : A → B) (x : Reading A) (rs : List (Reading B)) where

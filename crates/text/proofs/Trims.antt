@@ -4,7 +4,7 @@ use mathlib.Core.Bool.{Bool, true, false, cond, _||_}
 use mathlib.Core.List.{List, [], _∷_, _++_}
 use Prim.Native.Nat.{ℕ, suc, _+_, _-_, _≤_, _<_}
 use native.Mathlib.Omega.{arith}
-use lib.ListN.{length, getD, take, drop}
+use lib.ListN.{length, getD, take, drop, length-take, length-drop}
 use lib.Seq.{take-suc, take-length, length-take-le}
 use lib.Dec.{eqb}
 use borrow.Author.Tests.{eq-eqb, ne-eqb, eqb-true, eqb-false}
@@ -153,6 +153,14 @@ module _ (bs : List ℕ) where
       go true h = omega arith
       go false h = omega arith
 
+  place-in : (s : List ℕ) → trimPlace bs s ≤ length s
+  unfolding trimPlace
+  place-in s = go (eqb (leading bs s) (length s)) (leading-le s)
+    where
+      go : (t : Bool) → leading bs s ≤ length s → cond t 0 (leading bs s) ≤ length s
+      go true h = omega arith
+      go false h = h
+
   trim-bytes : (s : List ℕ) → partOf s (trimPlace bs s) (length (trimEnd bs s)) ≡ trimmed bs s
   unfolding trimPlace
   trim-bytes s = go (eqb (leading bs s) (length s)) refl
@@ -160,6 +168,17 @@ module _ (bs : List ℕ) where
       go : (t : Bool) → eqb (leading bs s) (length s) ≡ t → partOf s (cond t 0 (leading bs s)) (length (trimEnd bs s)) ≡ trimmed bs s
       go true e = let r = all-go s (eqb-true _ _ e) in rw (r .0, r .1) (from-start s 0)
       go false e = some-stay s (let n : leading bs s ≡ length s → ⊥ = eqb-false _ _ e in let l = leading-le s in omega arith)
+
+part-in : (s : List ℕ) (a e : ℕ) → length (partOf s a e) ≤ length s - a
+unfolding partOf
+part-in s a e = omega (arith, length-take (e - a) (drop a s), length-drop a s)
+
+-- what is left lies in the line
+pub trim-in : (bs s : List ℕ) → trimPlace bs s + length (trimmed bs s) ≤ length s
+trim-in bs s =
+    let e = length (trimEnd bs s) in
+    let a = trimPlace bs s in
+    rw (sym (trim-bytes bs s)) (omega (arith, part-in s a e, place-in bs s))
 
 pub trim-part : (s t : RefT (List ℕ)) (b a e : ℕ) → a ≡ trimPlace (b ∷ []) (now s) → e ≡ length (trimEnd (b ∷ b ∷ []) (now s)) → IsPart s t a (partOf (now s) a e)
     → IsPart s t (trimPlace (b ∷ []) (now s)) (trimmed (b ∷ []) (now s))

@@ -18,17 +18,17 @@ abbrev pub within : ℕ → ℕ → ℕ → Bool
 within lo hi x = leb lo x && leb x hi
 
 -- the line begins with the text p
-abbrev pub startsWith : List ℕ → List ℕ → Bool
+unfoldable pub startsWith : List ℕ → List ℕ → Bool
 startsWith [] s = true
 startsWith (b ∷ p) [] = false
 startsWith (b ∷ p) (x ∷ s) = eqb x b && startsWith p s
 
 -- the line is the text t
-abbrev pub same : List ℕ → List ℕ → Bool
+unfoldable pub same : List ℕ → List ℕ → Bool
 same s t = eqb (length s) (length t) && startsWith t s
 
 -- the line ends with the text p
-abbrev pub endsWith : List ℕ → List ℕ → Bool
+unfoldable pub endsWith : List ℕ → List ℕ → Bool
 endsWith p s = same (drop (length s - length p) s) p
 
 -- how many bytes stand before the first b, all of them where there is none
@@ -42,7 +42,7 @@ countOf b [] = 0
 countOf b (x ∷ s) = cond (eqb x b) 1 0 + countOf b s
 
 -- the line has a b
-abbrev pub has : ℕ → List ℕ → Bool
+unfoldable pub has : ℕ → List ℕ → Bool
 has b s = ltb (indexOf b s) (length s)
 
 -- how many bytes stand before the first place where the text p stands, all of them where there is none
@@ -51,7 +51,7 @@ indexOfText p [] = 0
 indexOfText p (x ∷ s) = cond (startsWith p (x ∷ s)) 0 (suc (indexOfText p s))
 
 -- the text p stands in the line
-abbrev pub hasText : List ℕ → List ℕ → Bool
+unfoldable pub hasText : List ℕ → List ℕ → Bool
 hasText p s = ltb (indexOfText p s) (length s)
 
 -- '0' to '9'

@@ -1,0 +1,61 @@
+use borrow.Author.Needs.{needs}
+use Rattle.at_command.proofs.cops.mode_of.Statement.{statement}
+use Rattle.at_command.proofs.cops.mode_of.Tie as tie
+use Rattle.text.proofs.Readings.{reader}
+
+slice-aggregate-is-text : tie.Need-slice-aggregate-is-text
+slice-aggregate-is-text c = search needs
+
+is-text-requires : tie.Need-is-text-requires
+is-text-requires c κs = search needs
+
+returns : tie.Need-returns
+returns c = search (needs, reader)
+
+slice-aggregate-is-text-2 : tie.Need-slice-aggregate-is-text-2
+slice-aggregate-is-text-2 c = search needs
+
+is-text-requires-2 : tie.Need-is-text-requires-2
+is-text-requires-2 c κs = search needs
+
+returns-2 : tie.Need-returns-2
+returns-2 c = search (needs, reader)
+
+slice-aggregate-is-text-3 : tie.Need-slice-aggregate-is-text-3
+slice-aggregate-is-text-3 c = search needs
+
+is-text-requires-3 : tie.Need-is-text-requires-3
+is-text-requires-3 c κs = search needs
+
+returns-3 : tie.Need-returns-3
+returns-3 c = search (needs, reader)
+
+slice-aggregate-is-text-4 : tie.Need-slice-aggregate-is-text-4
+slice-aggregate-is-text-4 c = search needs
+
+is-text-requires-4 : tie.Need-is-text-requires-4
+is-text-requires-4 c κs = search needs
+
+returns-4 : tie.Need-returns-4
+returns-4 c = search (needs, reader)
+
+returns-5 : tie.Need-returns-5
+returns-5 c = search (needs, reader)
+
+pub mode-of-spec : {M : Type 1} → statement M
+mode-of-spec =
+    tie.close
+    (tie.spec
+    slice-aggregate-is-text
+    is-text-requires
+    returns
+    slice-aggregate-is-text-2
+    is-text-requires-2
+    returns-2
+    slice-aggregate-is-text-3
+    is-text-requires-3
+    returns-3
+    slice-aggregate-is-text-4
+    is-text-requires-4
+    returns-4
+    returns-5)

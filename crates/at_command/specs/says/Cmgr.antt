@@ -1,0 +1,14 @@
+-- What the answers of cmgr say on paper.
+use Rattle.text.specs.Part.{Span}
+use Rattle.text.specs.Reading.{Reading, read, refused}
+use Rattle.text.specs.says.Part.{placeSays}
+use Rattle.at_command.specs.declared.cmgr.SmsMessage.{SmsMessage}
+use Rattle.at_command.specs.declared.cmgr.SmsMessageAnswer.{SmsMessageAnswer}
+use Rattle.at_command.specs.declared.cmgr.SmsMessageAnswer.the-variants.{Value, Refused}
+
+abbrev pub messageSays : SmsMessage → Span
+messageSays m = placeSays (m .sender)
+
+abbrev pub says : SmsMessageAnswer → Reading Span
+says (Value m) = read (messageSays m)
+says (Refused k) = refused k

@@ -1,0 +1,48 @@
+// AT+CMGR: an SMS message.
+use crate::unquoted;
+use text::bytes;
+use text::field;
+use text::part;
+use text::part::Place;
+ghost use mathlib.Core.Path.{_≡_};
+ghost use lib.ListN.{drop};
+ghost use Rattle.text.specs.Field.{fields};
+ghost use Rattle.at_command.specs.Cmgr.{cmgrFields, cmgrText};
+ghost use Rattle.at_command.specs.says.Cmgr.{says};
+
+// The sender's place in the line. The message's text is empty, as in the Rust.
+pub struct SmsMessage {
+    pub sender: Place,
+}
+
+pub enum SmsMessageAnswer {
+    Value(SmsMessage),
+    Refused(u8),
+}
+
+// Reads what follows the prefix of seven bytes.
+fn sms_message(line: &[u8]) -> SmsMessageAnswer
+    ensures { λ r. ⌜ says r ≡ cmgrFields (fields 44 (drop 7 (now (line .entry)))) ⌝ }
+{
+    let rest = part::skip(line, 7);
+    if field::field_count(rest, b',') < 3 {
+        return SmsMessageAnswer::Refused(3);
+    }
+    if 20 < part::trim(field::field(rest, b',', 1), b'"').len() {
+        return SmsMessageAnswer::Refused(4);
+    }
+    SmsMessageAnswer::Value(SmsMessage {
+        sender: unquoted::unquoted_field(line, 1),
+    })
+}
+
+impl SmsMessage {
+    pub(crate) fn from_checked(line: &[u8]) -> SmsMessageAnswer
+        ensures { λ r. ⌜ says r ≡ cmgrText (now (line .entry)) ⌝ }
+    {
+        if !bytes::starts_with(line, b"+CMGR: ") {
+            return SmsMessageAnswer::Refused(3);
+        }
+        sms_message(line)
+    }
+}
