@@ -1,0 +1,3 @@
+pub mod LineLaws
+pub mod Utf8Grammar
+pub mod Utf8Laws
