@@ -1,6 +1,9 @@
-pub mod Rest
-pub mod Finding
-pub mod Parts
 pub mod Fields
-pub mod Trims
+pub mod Finding
+pub mod LineLaws
+pub mod Parts
 pub mod Readings
+pub mod Rest
+pub mod Trims
+pub mod Utf8Grammar
+pub mod Utf8Laws

@@ -1,1 +1,17 @@
 // The check that every line passes first.
+use crate::utf8;
+ghost use mathlib.Core.Path.{_≡_};
+ghost use Rattle.text.specs.Line.{lineCheck};
+
+// The number of the refusal that every reader gives s: 1, it has more than 256 bytes; 2, it is not UTF-8; 0, none.
+pub fn check_line(s: &[u8]) -> u8
+    ensures { λ r. ⌜ r ≡ lineCheck (now (s .entry)) ⌝ }
+{
+    if 256 < s.len() {
+        return 1;
+    }
+    if utf8::is_utf8(s) {
+        return 0;
+    }
+    2
+}

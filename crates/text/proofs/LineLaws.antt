@@ -1,0 +1,36 @@
+-- The line check: what `check_line` gives, and the two ways on of a reader that calls it first.
+use mathlib.Core.Path.{_≡_}
+use mathlib.Core.Bool.{Bool, true, false}
+use mathlib.Core.List.{List}
+use Prim.Native.Nat.{ℕ, _≤_, _<_}
+use lib.ListN.{length}
+use borrow.Author.Tests.{eq-eqb, ne-eqb, lt-ltb, le-ltb}
+use Rattle.text.specs.Line.{lineCheck, checked}
+use Rattle.text.specs.Reading.{Reading, refused}
+use Rattle.text.specs.Utf8.{utf8}
+
+module _ (s : List ℕ) where
+  pub check-long : 256 < length s → 1 ≡ lineCheck s
+  unfolding lineCheck
+  check-long h = rw (lt-ltb _ _ h)
+
+  module _ (t : Bool) (fits : length s ≤ 256) (is : t ≡ utf8 s) where
+    pub check-good : t ≡ true → 0 ≡ lineCheck s
+    unfolding lineCheck
+    check-good h = rw (le-ltb _ _ fits, ← is, h)
+
+    pub check-bad : t ≡ false → 2 ≡ lineCheck s
+    unfolding lineCheck
+    check-bad h = rw (le-ltb _ _ fits, ← is, h)
+
+-- `let k = check_line(s); if k != 0 { return refused k } bare(s)`: k refuses the line, or the bare reader's answer q is the checked one's
+module _ {A : Type 0} (reader : List ℕ → Reading A) (s : List ℕ) (k : ℕ) (is : k ≡ lineCheck s) where
+  pub line-bad : (k ≡ 0 → ⊥) → refused k ≡ checked reader s
+  unfolding checked
+  line-bad h = rw (← is, ne-eqb k 0 h)
+
+  pub line-good : (q : Reading A) → k ≡ 0 → q ≡ reader s → q ≡ checked reader s
+  unfolding checked
+  line-good q h e = rw (← is, eq-eqb k 0 h) e
+
+pub ruleset lines = (line-bad, line-good)
