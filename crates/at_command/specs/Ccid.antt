@@ -1,13 +1,11 @@
 -- The ICCID (document 01, "Iccid"; ccid.rs; ITU-T E.118): 89, country, issuer and account.
 use Prim.Native.Nat.{ℕ}
-use mathlib.Core.Bool.{_||_}
 use mathlib.Core.List.{List}
-use lib.Dec.{eqb}
-use lib.ListN.{length, drop}
+use lib.ListN.{drop}
 use Rattle.text.specs.Bytes.{bytes, startsWith}
 use Rattle.text.specs.Part.{partOf, trimEnd}
 use Rattle.text.specs.Number.{unsigned}
-use Rattle.text.specs.Reading.{Reading, read, only, need}
+use Rattle.text.specs.Reading.{Reading, read, only, sized, need}
 
 pub record Card : Type 0 where
   pub country : ℕ
@@ -17,7 +15,7 @@ pub record Card : Type 0 where
 -- 19 or 20 bytes, "89" first, then u8, u8 and the rest as u64. A part that is cut inside a character is no number, so it is refused.
 unfoldable pub cardText : List ℕ → Reading Card
 cardText t =
-    only (eqb (length t) 19 || eqb (length t) 20)
+    sized 19 20 t
     (only (startsWith (bytes "89") t)
     (need (unsigned 10 255 (partOf t 2 4)) (λ c.
     need (unsigned 10 255 (partOf t 4 6)) (λ i.

@@ -1,12 +1,12 @@
 -- The IMEI (document 01, "Imei"; gsn.rs; TS 23.003, annex B): 15 or 16 digits, the last of which is the check digit of the others.
 use Prim.Native.Nat.{ℕ, _+_, _-_, _*_, _/_, _%_}
-use mathlib.Core.Bool.{Bool, true, false, cond, not, _||_}
+use mathlib.Core.Bool.{Bool, true, false, cond, not}
 use mathlib.Core.List.{List, [], _∷_}
 use lib.Dec.{eqb}
 use lib.ListN.{length, take, getD}
 use Rattle.text.specs.Bytes.{allDigits}
 use Rattle.text.specs.Part.{Span, spanOf}
-use Rattle.text.specs.Reading.{Reading, read, only}
+use Rattle.text.specs.Reading.{Reading, read, only, sized}
 
 -- the digits of a double, added
 abbrev pub doubled : ℕ → ℕ
@@ -23,6 +23,6 @@ checkDigit s = (10 - luhn false s % 10) % 10
 -- over all but the last digit, which is never doubled, at either length
 unfoldable pub imeiText : List ℕ → Reading Span
 imeiText s =
-    only (eqb (length s) 15 || eqb (length s) 16)
+    sized 15 16 s
     (only (allDigits s)
     (only (eqb (getD s (length s - 1) 0 - 48) (checkDigit (take (length s - 1) s))) (read (spanOf 0 s))))

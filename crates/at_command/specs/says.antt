@@ -3,3 +3,4 @@ pub mod Cmgr
 pub mod Cntp
 pub mod Cops
 pub mod Cpsi
+pub mod Gsn

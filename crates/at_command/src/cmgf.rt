@@ -1,8 +1,10 @@
 // AT+CMGF: the format of SMS messages.
 use text::bytes;
+use text::line;
 use text::part;
 ghost use mathlib.Core.Path.{_≡_};
 ghost use Rattle.text.specs.Code.{codeIn};
+ghost use Rattle.text.specs.Line.{checked};
 ghost use Rattle.at_command.specs.Cmgf.{messageFormats, cmgfText};
 ghost use Rattle.at_command.specs.says.Cmgf.{says, codeSays};
 
@@ -44,5 +46,15 @@ impl SmsMessageFormat {
             return SmsMessageFormatAnswer::Refused(3);
         };
         SmsMessageFormatAnswer::Value(format)
+    }
+
+    pub fn from_line(line: &[u8]) -> SmsMessageFormatAnswer
+        ensures { λ r. ⌜ says r ≡ checked cmgfText (now (line .entry)) ⌝ }
+    {
+        let k = line::check_line(line);
+        if k != 0 {
+            return SmsMessageFormatAnswer::Refused(k);
+        }
+        SmsMessageFormat::from_checked(line)
     }
 }

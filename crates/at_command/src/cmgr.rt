@@ -2,11 +2,13 @@
 use crate::unquoted;
 use text::bytes;
 use text::field;
+use text::line;
 use text::part;
 use text::part::Place;
 ghost use mathlib.Core.Path.{_≡_};
 ghost use lib.ListN.{drop};
 ghost use Rattle.text.specs.Field.{fields};
+ghost use Rattle.text.specs.Line.{checked};
 ghost use Rattle.at_command.specs.Cmgr.{cmgrFields, cmgrText};
 ghost use Rattle.at_command.specs.says.Cmgr.{says};
 
@@ -44,5 +46,15 @@ impl SmsMessage {
             return SmsMessageAnswer::Refused(3);
         }
         sms_message(line)
+    }
+
+    pub fn from_line(line: &[u8]) -> SmsMessageAnswer
+        ensures { λ r. ⌜ says r ≡ checked cmgrText (now (line .entry)) ⌝ }
+    {
+        let k = line::check_line(line);
+        if k != 0 {
+            return SmsMessageAnswer::Refused(k);
+        }
+        SmsMessage::from_checked(line)
     }
 }

@@ -1,10 +1,12 @@
 // AT+CNTP: the time of the network.
 use text::bytes;
+use text::line;
 use text::part;
 use text::part::Place;
 ghost use mathlib.Core.Path.{_≡_};
 ghost use lib.ListN.{drop};
 ghost use Rattle.text.specs.Code.{codeIn};
+ghost use Rattle.text.specs.Line.{checked};
 ghost use Rattle.at_command.specs.Cntp.{ntpCodes, ntpErrors, cntpRest, cntpText};
 ghost use Rattle.at_command.specs.says.Cntp.{says, codeSays};
 
@@ -103,5 +105,15 @@ impl NetworkTime {
             return NetworkTimeAnswer::Refused(3);
         }
         network_time(line)
+    }
+
+    pub fn from_line(line: &[u8]) -> NetworkTimeAnswer
+        ensures { λ r. ⌜ says r ≡ checked cntpText (now (line .entry)) ⌝ }
+    {
+        let k = line::check_line(line);
+        if k != 0 {
+            return NetworkTimeAnswer::Refused(k);
+        }
+        NetworkTime::from_checked(line)
     }
 }

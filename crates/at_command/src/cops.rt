@@ -2,12 +2,14 @@
 use crate::unquoted;
 use text::bytes;
 use text::field;
+use text::line;
 use text::part;
 use text::part::Place;
 ghost use mathlib.Core.Path.{_≡_};
 ghost use lib.ListN.{drop};
 ghost use Rattle.text.specs.Code.{codeIn};
 ghost use Rattle.text.specs.Field.{fields};
+ghost use Rattle.text.specs.Line.{checked};
 ghost use Rattle.at_command.specs.Cops.{operatorModes, operatorFormats, FieldOr, nameOf, copsFields, copsText};
 ghost use Rattle.at_command.specs.says.Cops.{says, modeSays, formatSays, nameSays};
 
@@ -134,5 +136,15 @@ impl OperatorInfo {
             return OperatorInfoAnswer::Refused(3);
         }
         operator_info(line, format, name)
+    }
+
+    pub fn from_line<'a>(line: &'a [u8], format: &'a [u8], name: &'a [u8]) -> OperatorInfoAnswer
+        ensures { λ r. ⌜ says r ≡ checked (copsText (now (format .entry)) (now (name .entry))) (now (line .entry)) ⌝ }
+    {
+        let k = line::check_line(line);
+        if k != 0 {
+            return OperatorInfoAnswer::Refused(k);
+        }
+        OperatorInfo::from_checked(line, format, name)
     }
 }

@@ -1,10 +1,12 @@
 // AT+CPSI: the system mode and the operation mode.
 use text::bytes;
 use text::field;
+use text::line;
 use text::part;
 ghost use mathlib.Core.Path.{_≡_};
 ghost use Rattle.text.specs.Code.{codeIn};
 ghost use Rattle.text.specs.Field.{fields};
+ghost use Rattle.text.specs.Line.{checked};
 ghost use Rattle.at_command.specs.Cpsi.{systemModes, operationModes, cpsiFields, cpsiText};
 ghost use Rattle.at_command.specs.says.Cpsi.{says, systemSays, operationSays};
 
@@ -108,5 +110,15 @@ impl SystemInfo {
             return SystemInfoAnswer::Refused(3);
         }
         system_info(part::skip(line, 7))
+    }
+
+    pub fn from_line(line: &[u8]) -> SystemInfoAnswer
+        ensures { λ r. ⌜ says r ≡ checked cpsiText (now (line .entry)) ⌝ }
+    {
+        let k = line::check_line(line);
+        if k != 0 {
+            return SystemInfoAnswer::Refused(k);
+        }
+        SystemInfo::from_checked(line)
     }
 }

@@ -4,4 +4,5 @@ pub mod cmgr;
 pub mod cntp;
 pub mod cops;
 pub mod cpsi;
+pub mod gsn;
 mod unquoted;

@@ -8,11 +8,11 @@ use Prim.Native.Nat.{ℕ, _≤_, _<_}
 use lib.Dec.{eqb, leb}
 use lib.ListN.{length}
 use borrow.Author.Tests.{eq-eqb, ne-eqb, le-leb, lt-leb, not-true, not-false}
-use Rattle.text.specs.Bytes.{same, startsWith, endsWith, has}
+use Rattle.text.specs.Bytes.{same, has}
 use Rattle.text.specs.Part.{before, after, trimmed}
 use Rattle.text.specs.Field.{fields, nth}
 use Rattle.text.specs.Code.{Entry, codeIn}
-use Rattle.text.specs.Reading.{Reading, read, refused, only, either, need, fitting, mapped, worse, firstOf}
+use Rattle.text.specs.Reading.{Reading, read, refused, only, either, need, sized, fitting, mapped, worse, firstOf}
 
 module _ {A : Type 0} where
   pub only-not : (t x : Bool) (r : Reading A) → x ≡ t → x ≡ false → refused 3 ≡ only t r
@@ -63,6 +63,20 @@ module _ {A : Type 0} where
 
     pub only-under : (r : Reading A) → k ≡ c → k < n → refused 3 ≡ only (leb n c) r
     only-under r e h = only-not (leb n c) false r (sym (lt-leb n c (subst (λ (m : ℕ). m < n) e h))) refl
+
+  -- a text of some length, which the code has under the name t
+  module _ (lo hi : ℕ) (t s : List ℕ) (r : Reading A) where
+    pub sized-so : (q : Reading A) → t ≡ s → lo ≤ length t → length t ≤ hi → q ≡ r → q ≡ sized lo hi s r
+    unfolding sized
+    sized-so q e l h p = rw (sym e, le-leb lo (length t) l, le-leb (length t) hi h) p
+
+    pub sized-low : t ≡ s → length t < lo → refused 3 ≡ sized lo hi s r
+    unfolding sized
+    sized-low e l = rw (sym e, lt-leb lo (length t) l)
+
+    pub sized-high : t ≡ s → lo ≤ length t → hi < length t → refused 3 ≡ sized lo hi s r
+    unfolding sized
+    sized-high e l h = rw (sym e, le-leb lo (length t) l, lt-leb (length t) hi h)
 
   -- a text that fits, and one that is too long, which the code has under the name t
   module _ (n : ℕ) (t s : List ℕ) (r : Reading A) where
@@ -132,7 +146,7 @@ pub code-none : (t : List ℕ) → none ≡ codeIn [] t
 code-none t = refl
 
 pub ruleset reader =
-    (only-so, only-not, either-so, either-not, unless-so, unless-not, otherwise-so, otherwise-not, either-is, either-else, only-is, only-else, only-least, only-under, fits, too-long, same-via, has-via, before-via, after-via, count-via, field-via, trim-via, code-is, code-not, code-none)
+    (only-so, only-not, either-so, either-not, unless-so, unless-not, otherwise-so, otherwise-not, either-is, either-else, only-is, only-else, only-least, only-under, sized-so, sized-low, sized-high, fits, too-long, same-via, has-via, before-via, after-via, count-via, field-via, trim-via, code-is, code-not, code-none)
 
 -- readers in order of trial: what the next one says decides
 module _ {A B : Type 0} (j : ℕ) (g : A → B) (x : Reading A) (rs : List (Reading B)) where

@@ -5,6 +5,7 @@ use mathlib.Core.List.{List, [], _∷_}
 use mathlib.Core.Option.{Option, none, some}
 use lib.Dec.{leb, eqb}
 use lib.ListN.{length}
+use Rattle.text.specs.Bytes.{within}
 
 -- a value, or the number of the refusal
 pub data Reading (A : Type 0) : Type 0 where
@@ -23,6 +24,10 @@ module _ {A : Type 0} where
   -- the first reading where the test passes, else the second
   unfoldable pub either : Bool → Reading A → Reading A → Reading A
   either t r q = cond t r q
+
+  -- the reading where the text has lo to hi bytes, else refusal 3
+  unfoldable pub sized : ℕ → ℕ → List ℕ → Reading A → Reading A
+  sized lo hi t r = cond (within lo hi (length t)) r (refused 3)
 
   -- the reading where the text has at most n bytes, else refusal 4
   unfoldable pub fitting : ℕ → List ℕ → Reading A → Reading A

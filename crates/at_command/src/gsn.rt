@@ -1,0 +1,88 @@
+// AT+GSN: the IMEI.
+use text::bytes;
+use text::line;
+use text::part;
+use text::part::Place;
+ghost use mathlib.Core.Path.{_≡_};
+ghost use mathlib.Core.Bool.{true};
+ghost use Prim.Native.Nat.{_≤_};
+ghost use lib.ListN.{length};
+ghost use Rattle.text.specs.Bytes.{allDigits};
+ghost use Rattle.text.specs.Line.{checked};
+ghost use Rattle.at_command.specs.Gsn.{doubled, checkDigit, imeiText};
+ghost use Rattle.at_command.specs.says.Gsn.{says};
+
+// The IMEI's place, which is the whole line.
+pub struct Imei {
+    pub imei: Place,
+}
+
+pub enum ImeiAnswer {
+    Value(Imei),
+    Refused(u8),
+}
+
+// The digits of twice d, added.
+fn double(d: u8) -> u8
+    requires { ⌜ d ≤ 9 ⌝ }
+    ensures { λ r. ⌜ r ≡ doubled d ⌝ }
+{
+    2 * d / 10 + 2 * d % 10
+}
+
+// The check digit that belongs to the digits of s.
+fn check_digit(s: &[u8]) -> u8
+    requires { ⌜ (allDigits (now s) ≡ true) × (length (now s) ≤ 16) ⌝ }
+    ensures { λ r. ⌜ r ≡ checkDigit (now (s .entry)) ⌝ }
+{
+    let mut sum: u8 = 0;
+    let mut odd = false;
+    let mut i = 0;
+    while i < s.len() {
+        let d = s[i] - 48;
+        if odd {
+            sum += double(d);
+            odd = false;
+            i += 1;
+        } else {
+            sum += d;
+            odd = true;
+            i += 1;
+        }
+    }
+    (10 - sum % 10) % 10
+}
+
+impl Imei {
+    pub(crate) fn from_checked(line: &[u8]) -> ImeiAnswer
+        ensures { λ r. ⌜ says r ≡ imeiText (now (line .entry)) ⌝ }
+    {
+        let n = line.len();
+        if n < 15 {
+            return ImeiAnswer::Refused(3);
+        }
+        if 16 < n {
+            return ImeiAnswer::Refused(3);
+        }
+        if !bytes::all_digits(line) {
+            return ImeiAnswer::Refused(3);
+        }
+        let last = line[n - 1] - 48;
+        if last != check_digit(part::part(line, 0, n - 1)) {
+            return ImeiAnswer::Refused(3);
+        }
+        ImeiAnswer::Value(Imei {
+            imei: Place { start: 0, end: n },
+        })
+    }
+
+    pub fn from_line(line: &[u8]) -> ImeiAnswer
+        ensures { λ r. ⌜ says r ≡ checked imeiText (now (line .entry)) ⌝ }
+    {
+        let k = line::check_line(line);
+        if k != 0 {
+            return ImeiAnswer::Refused(k);
+        }
+        Imei::from_checked(line)
+    }
+}
