@@ -23,10 +23,12 @@ use Rattle.text.proofs.Numbers.{magnitude-le, unsigned-le, negative-fit
 
 -- the sign b, by the first byte x as `first` gives it
 first-is : (b : ℕ) (s : List ℕ) → getD s 0 0 ≡ suc b → startsWith (suc b ∷ []) s ≡ true
+unfolding startsWith
 first-is b [] e = absurd (omega arith)
 first-is b (x ∷ s) e = rw (eq-eqb _ _ e)
 
 first-not : (b : ℕ) (s : List ℕ) → (getD s 0 0 ≡ b → ⊥) → startsWith (b ∷ []) s ≡ false
+unfolding startsWith
 first-not b [] e = refl
 first-not b (x ∷ s) e = rw (ne-eqb _ _ e)
 
