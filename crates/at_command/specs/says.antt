@@ -1,6 +1,9 @@
+pub mod Ccid
 pub mod Cmgf
 pub mod Cmgr
 pub mod Cntp
 pub mod Cops
 pub mod Cpsi
+pub mod Generic
 pub mod Gsn
+pub mod Httptofs

@@ -1,0 +1,45 @@
+-- What the answers of httptofs say on paper.
+use Prim.Native.Nat.{ℕ}
+use mathlib.Core.Bool.{cond}
+use mathlib.Core.Option.{Option, none, some}
+use lib.Dec.{eqb}
+use Rattle.text.specs.Reading.{Reading, read, refused}
+use Rattle.at_command.specs.Httptofs.{Download}
+use Rattle.at_command.specs.declared.httptofs.StatusCode.{StatusCode}
+use Rattle.at_command.specs.declared.httptofs.StatusCode.the-variants.{Continue, Ok, PartialContent, BadRequest, NotFound, RequestTimeout, InternalServerError, NotHttpPdu, NetworkError, NoMemory, DnsError, StackBusy, SslContinue, OtherErrors}
+use Rattle.at_command.specs.declared.httptofs.Success.{Success}
+use Rattle.at_command.specs.declared.httptofs.Success.the-variants as S
+use Rattle.at_command.specs.declared.httptofs.DownloadInfo.{DownloadInfo}
+use Rattle.at_command.specs.declared.httptofs.DownloadInfoAnswer.{DownloadInfoAnswer}
+use Rattle.at_command.specs.declared.httptofs.DownloadInfoAnswer.the-variants.{Value, Refused}
+
+abbrev pub statusNumber : StatusCode → ℕ
+statusNumber Continue = 100
+statusNumber Ok = 200
+statusNumber PartialContent = 206
+statusNumber BadRequest = 400
+statusNumber NotFound = 404
+statusNumber RequestTimeout = 408
+statusNumber InternalServerError = 500
+statusNumber NotHttpPdu = 600
+statusNumber NetworkError = 601
+statusNumber NoMemory = 602
+statusNumber DnsError = 603
+statusNumber StackBusy = 604
+statusNumber SslContinue = 620
+statusNumber OtherErrors = 0
+
+-- 200 is a success; every other code is the error
+abbrev pub succeeded : ℕ → Option ℕ
+succeeded n = cond (eqb n 200) none (some n)
+
+abbrev pub successSays : Success → Option ℕ
+successSays S.Ok = none
+successSays (S.Err c) = some (statusNumber c)
+
+abbrev pub infoSays : DownloadInfo → Download
+infoSays d = record { status = statusNumber (d .«status_code»); size = d .«data_length» }
+
+abbrev pub says : DownloadInfoAnswer → Reading Download
+says (Value d) = read (infoSays d)
+says (Refused k) = refused k

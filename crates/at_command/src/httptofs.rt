@@ -1,0 +1,165 @@
+// AT+HTTPTOFS: a download to the modem's file system.
+use text::bytes;
+use text::line;
+use text::number;
+use text::number::ParsedU64;
+use text::part;
+ghost use mathlib.Core.Path.{_≡_};
+ghost use Rattle.text.specs.Code.{codeIn};
+ghost use Rattle.text.specs.Line.{checked};
+ghost use Rattle.text.specs.Number.{unsigned};
+ghost use Rattle.text.specs.Part.{after};
+ghost use Rattle.at_command.specs.Httptofs.{httpCodes, errorCodes, modemCodes, orZero, downloadOf, httptofsText};
+ghost use Rattle.at_command.specs.says.Httptofs.{says, statusNumber, infoSays, successSays, succeeded};
+
+pub enum StatusCode {
+    Continue,
+    Ok,
+    PartialContent,
+    BadRequest,
+    NotFound,
+    RequestTimeout,
+    InternalServerError,
+    NotHttpPdu,
+    NetworkError,
+    NoMemory,
+    DnsError,
+    StackBusy,
+    SslContinue,
+    OtherErrors,
+}
+
+pub struct DownloadInfo {
+    pub status_code: StatusCode,
+    pub data_length: u64,
+}
+
+pub enum DownloadInfoAnswer {
+    Value(DownloadInfo),
+    Refused(u8),
+}
+
+// Whether a download succeeded, or the code of why not.
+pub enum Success {
+    Ok,
+    Err(StatusCode),
+}
+
+impl StatusCode {
+    pub fn success(self) -> Success
+        ensures { λ r. ⌜ successSays r ≡ succeeded (statusNumber self) ⌝ }
+    {
+        match self {
+            StatusCode::Continue => Success::Err(StatusCode::Continue),
+            StatusCode::Ok => Success::Ok,
+            StatusCode::PartialContent => Success::Err(StatusCode::PartialContent),
+            StatusCode::BadRequest => Success::Err(StatusCode::BadRequest),
+            StatusCode::NotFound => Success::Err(StatusCode::NotFound),
+            StatusCode::RequestTimeout => Success::Err(StatusCode::RequestTimeout),
+            StatusCode::InternalServerError => Success::Err(StatusCode::InternalServerError),
+            StatusCode::NotHttpPdu => Success::Err(StatusCode::NotHttpPdu),
+            StatusCode::NetworkError => Success::Err(StatusCode::NetworkError),
+            StatusCode::NoMemory => Success::Err(StatusCode::NoMemory),
+            StatusCode::DnsError => Success::Err(StatusCode::DnsError),
+            StatusCode::StackBusy => Success::Err(StatusCode::StackBusy),
+            StatusCode::SslContinue => Success::Err(StatusCode::SslContinue),
+            StatusCode::OtherErrors => Success::Err(StatusCode::OtherErrors),
+        }
+    }
+}
+
+fn modem_status(t: &[u8]) -> StatusCode
+    ensures { λ r. ⌜ statusNumber r ≡ orZero (codeIn modemCodes (now (t .entry))) ⌝ }
+{
+    if bytes::is_text(t, b"601") {
+        return StatusCode::NetworkError;
+    }
+    if bytes::is_text(t, b"602") {
+        return StatusCode::NoMemory;
+    }
+    if bytes::is_text(t, b"603") {
+        return StatusCode::DnsError;
+    }
+    if bytes::is_text(t, b"604") {
+        return StatusCode::StackBusy;
+    }
+    if bytes::is_text(t, b"620") {
+        return StatusCode::SslContinue;
+    }
+    StatusCode::OtherErrors
+}
+
+fn error_status(t: &[u8]) -> StatusCode
+    ensures { λ r. ⌜ statusNumber r ≡ orZero (codeIn errorCodes (now (t .entry))) ⌝ }
+{
+    if bytes::is_text(t, b"404") {
+        return StatusCode::NotFound;
+    }
+    if bytes::is_text(t, b"408") {
+        return StatusCode::RequestTimeout;
+    }
+    if bytes::is_text(t, b"500") {
+        return StatusCode::InternalServerError;
+    }
+    if bytes::is_text(t, b"600") {
+        return StatusCode::NotHttpPdu;
+    }
+    modem_status(t)
+}
+
+fn status_of(t: &[u8]) -> StatusCode
+    ensures { λ r. ⌜ statusNumber r ≡ orZero (codeIn httpCodes (now (t .entry))) ⌝ }
+{
+    if bytes::is_text(t, b"100") {
+        return StatusCode::Continue;
+    }
+    if bytes::is_text(t, b"200") {
+        return StatusCode::Ok;
+    }
+    if bytes::is_text(t, b"206") {
+        return StatusCode::PartialContent;
+    }
+    if bytes::is_text(t, b"400") {
+        return StatusCode::BadRequest;
+    }
+    error_status(t)
+}
+
+fn length_of(t: &[u8]) -> u64
+    ensures { λ r. ⌜ r ≡ orZero (unsigned 10 18446744073709551615 (after 44 (now (t .entry)))) ⌝ }
+{
+    match number::parse_u64(part::after_byte(t, b',')) {
+        ParsedU64::Is(n) => n,
+        ParsedU64::Not => 0,
+    }
+}
+
+fn download(t: &[u8]) -> DownloadInfo
+    ensures { λ r. ⌜ infoSays r ≡ downloadOf (now (t .entry)) ⌝ }
+{
+    DownloadInfo {
+        status_code: status_of(part::before_byte(t, b',')),
+        data_length: length_of(t),
+    }
+}
+
+impl DownloadInfo {
+    pub(crate) fn from_checked(line: &[u8]) -> DownloadInfoAnswer
+        ensures { λ r. ⌜ says r ≡ httptofsText (now (line .entry)) ⌝ }
+    {
+        if !bytes::starts_with(line, b"+HTTPTOFS: ") {
+            return DownloadInfoAnswer::Refused(3);
+        }
+        DownloadInfoAnswer::Value(download(part::skip(line, 11)))
+    }
+
+    pub fn from_line(line: &[u8]) -> DownloadInfoAnswer
+        ensures { λ r. ⌜ says r ≡ checked httptofsText (now (line .entry)) ⌝ }
+    {
+        let k = line::check_line(line);
+        if k != 0 {
+            return DownloadInfoAnswer::Refused(k);
+        }
+        DownloadInfo::from_checked(line)
+    }
+}
