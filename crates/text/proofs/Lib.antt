@@ -1,9 +1,15 @@
+pub mod Digits
 pub mod Fields
 pub mod Finding
 pub mod LineLaws
+pub mod NumberExamples
+pub mod Numbers
+pub mod One
+pub mod OneNumber
 pub mod Parts
 pub mod Readings
 pub mod Rest
+pub mod Signs
 pub mod Trims
 pub mod Utf8Grammar
 pub mod Utf8Laws

@@ -1,12 +1,12 @@
 -- Whole numbers in a line, as Rust's `parse` and `from_str_radix` read them (document 01, "Numbers in a line"): one optional sign, then at
 -- least one ASCII digit of the base, and a value that the type can hold. Leading zeros are allowed.
-use Prim.Native.Nat.{ℕ, zero, suc, _+_, _-_, _*_, _^_}
-use mathlib.Core.Bool.{Bool, true, false, cond, _&&_}
+use Prim.Native.Nat.{ℕ, _+_, _-_, _*_, _^_}
+use mathlib.Core.Bool.{cond}
 use mathlib.Core.List.{List, [], _∷_}
-use mathlib.Core.Option.{Option, none, some}
+use mathlib.Core.Option.{Option, none, some, Option·map}
 use lib.Dec.{leb, ltb}
 use lib.ListN.{length, drop}
-use lib.IntN.{ℤ, pos, negsuc}
+use lib.IntN.{ℤ, pos, negℤ}
 use Rattle.text.specs.Bytes.{bytes, within, startsWith}
 
 -- what a digit is worth: '0' to '9', and the letters 'A' to 'F' of both cases; none for any other byte
@@ -37,15 +37,17 @@ unfoldable pub valueOf : ℕ → List ℕ → ℕ
 valueOf base [] = 0
 valueOf base (d ∷ ds) = d * base ^ length ds + valueOf base ds
 
--- the value of one or more digits, if it is at most max
+-- a value, if it is at most max
 abbrev pub upTo : ℕ → ℕ → Option ℕ
 upTo max n = cond (leb n max) (some n) none
 
+-- the value of digits, of which there is at least one
 abbrev pub worth : ℕ → ℕ → Option (List ℕ) → Option ℕ
 worth base max none = none
 worth base max (some []) = none
 worth base max (some (d ∷ ds)) = upTo max (valueOf base (d ∷ ds))
 
+-- the number of at most max that a text's bytes are the digits of
 unfoldable pub magnitude : ℕ → ℕ → List ℕ → Option ℕ
 magnitude base max s = worth base max (digitsOf base s)
 
@@ -53,15 +55,12 @@ magnitude base max s = worth base max (digitsOf base s)
 unfoldable pub unsigned : ℕ → ℕ → List ℕ → Option ℕ
 unsigned base max s = cond (startsWith (bytes "+") s) (magnitude base max (drop 1 s)) (magnitude base max s)
 
+abbrev pub negative : ℕ → ℤ
+negative n = negℤ (pos n)
+
 -- a signed number from -(max + 1) to max: a minus may stand before it too
-abbrev pub negated : Option ℕ → Option ℤ
-negated none = none
-negated (some zero) = some (pos 0)
-negated (some (suc n)) = some (negsuc n)
-
-abbrev pub positive : Option ℕ → Option ℤ
-positive none = none
-positive (some n) = some (pos n)
-
 unfoldable pub signed : ℕ → ℕ → List ℕ → Option ℤ
-signed base max s = cond (startsWith (bytes "-") s) (negated (magnitude base (max + 1) (drop 1 s))) (positive (unsigned base max s))
+signed base max s =
+    cond (startsWith (bytes "-") s)
+    (Option·map negative (magnitude base (max + 1) (drop 1 s)))
+    (Option·map pos (unsigned base max s))
