@@ -1,8 +1,9 @@
 -- The final lines (document 01, "Final lines"; generic_response.rs): result codes of V.250, 5.7, and the error codes of TS 27.007, 9.1, and TS 27.005, 3.2.5.
 use Prim.Native.Nat.{ℕ, _-_}
 use mathlib.Core.List.{List}
-use lib.ListN.{length, take, drop}
+use lib.ListN.{length, drop}
 use Rattle.text.specs.Bytes.{bytes, same, startsWith, endsWith}
+use Rattle.text.specs.Part.{partOf}
 use Rattle.text.specs.Number.{unsigned}
 use Rattle.text.specs.Reading.{Reading, read, refused, Mark, mark, only, either, need}
 
@@ -28,4 +29,4 @@ promptText s = only (same s (bytes "> ")) (read mark)
 
 -- the number before ", CLOSE OK", read to 64 bits
 unfoldable pub closeText : List ℕ → Reading ℕ
-closeText s = only (endsWith (bytes ", CLOSE OK") s) (need (unsigned 10 18446744073709551615 (take (length s - 10) s)) (λ n. read n))
+closeText s = only (endsWith (bytes ", CLOSE OK") s) (need (unsigned 10 18446744073709551615 (partOf s 0 (length s - 10))) (λ n. read n))

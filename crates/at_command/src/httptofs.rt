@@ -46,25 +46,35 @@ pub enum Success {
 }
 
 impl StatusCode {
+    // The code's number, 0 for OtherErrors.
+    pub fn number(self) -> u16
+        ensures { λ r. ⌜ r ≡ statusNumber self ⌝ }
+    {
+        match self {
+            StatusCode::Continue => 100,
+            StatusCode::Ok => 200,
+            StatusCode::PartialContent => 206,
+            StatusCode::BadRequest => 400,
+            StatusCode::NotFound => 404,
+            StatusCode::RequestTimeout => 408,
+            StatusCode::InternalServerError => 500,
+            StatusCode::NotHttpPdu => 600,
+            StatusCode::NetworkError => 601,
+            StatusCode::NoMemory => 602,
+            StatusCode::DnsError => 603,
+            StatusCode::StackBusy => 604,
+            StatusCode::SslContinue => 620,
+            StatusCode::OtherErrors => 0,
+        }
+    }
+
     pub fn success(self) -> Success
         ensures { λ r. ⌜ successSays r ≡ succeeded (statusNumber self) ⌝ }
     {
-        match self {
-            StatusCode::Continue => Success::Err(StatusCode::Continue),
-            StatusCode::Ok => Success::Ok,
-            StatusCode::PartialContent => Success::Err(StatusCode::PartialContent),
-            StatusCode::BadRequest => Success::Err(StatusCode::BadRequest),
-            StatusCode::NotFound => Success::Err(StatusCode::NotFound),
-            StatusCode::RequestTimeout => Success::Err(StatusCode::RequestTimeout),
-            StatusCode::InternalServerError => Success::Err(StatusCode::InternalServerError),
-            StatusCode::NotHttpPdu => Success::Err(StatusCode::NotHttpPdu),
-            StatusCode::NetworkError => Success::Err(StatusCode::NetworkError),
-            StatusCode::NoMemory => Success::Err(StatusCode::NoMemory),
-            StatusCode::DnsError => Success::Err(StatusCode::DnsError),
-            StatusCode::StackBusy => Success::Err(StatusCode::StackBusy),
-            StatusCode::SslContinue => Success::Err(StatusCode::SslContinue),
-            StatusCode::OtherErrors => Success::Err(StatusCode::OtherErrors),
+        if self.number() == 200 {
+            return Success::Ok;
         }
+        Success::Err(self)
     }
 }
 

@@ -1,73 +1,55 @@
 use borrow.Author.Needs.{needs}
 use Rattle.at_command.proofs.httptofs.modem_status.Statement.{statement}
 use Rattle.at_command.proofs.httptofs.modem_status.Tie as tie
-use Rattle.at_command.proofs.httptofs.modem_status.Reads as reads
-use Rattle.at_command.proofs.httptofs.modem_status.Lts as lts
-use Rattle.text.proofs.bytes.is_text.Reads as is-text-reads
+use Rattle.at_command.proofs.httptofs.Laws.{status-is, status-not, status-none}
 
--- src/httptofs.rt:74:26
 slice-aggregate-is-text : tie.Need-slice-aggregate-is-text
 slice-aggregate-is-text c = search needs
 
--- src/httptofs.rt:74:8
 is-text-requires : tie.Need-is-text-requires
 is-text-requires c κs = search needs
 
--- src/httptofs.rt:75:9
 returns : tie.Need-returns
-returns c = ?
+returns c = search (needs, status-is, status-not, status-none)
 
--- src/httptofs.rt:77:26
 slice-aggregate-is-text-2 : tie.Need-slice-aggregate-is-text-2
 slice-aggregate-is-text-2 c = search needs
 
--- src/httptofs.rt:77:8
 is-text-requires-2 : tie.Need-is-text-requires-2
 is-text-requires-2 c κs = search needs
 
--- src/httptofs.rt:78:9
 returns-2 : tie.Need-returns-2
-returns-2 c = ?
+returns-2 c = search (needs, status-is, status-not, status-none)
 
--- src/httptofs.rt:80:26
 slice-aggregate-is-text-3 : tie.Need-slice-aggregate-is-text-3
 slice-aggregate-is-text-3 c = search needs
 
--- src/httptofs.rt:80:8
 is-text-requires-3 : tie.Need-is-text-requires-3
 is-text-requires-3 c κs = search needs
 
--- src/httptofs.rt:81:9
 returns-3 : tie.Need-returns-3
-returns-3 c = ?
+returns-3 c = search (needs, status-is, status-not, status-none)
 
--- src/httptofs.rt:83:26
 slice-aggregate-is-text-4 : tie.Need-slice-aggregate-is-text-4
 slice-aggregate-is-text-4 c = search needs
 
--- src/httptofs.rt:83:8
 is-text-requires-4 : tie.Need-is-text-requires-4
 is-text-requires-4 c κs = search needs
 
--- src/httptofs.rt:84:9
 returns-4 : tie.Need-returns-4
-returns-4 c = ?
+returns-4 c = search (needs, status-is, status-not, status-none)
 
--- src/httptofs.rt:86:26
 slice-aggregate-is-text-5 : tie.Need-slice-aggregate-is-text-5
 slice-aggregate-is-text-5 c = search needs
 
--- src/httptofs.rt:86:8
 is-text-requires-5 : tie.Need-is-text-requires-5
 is-text-requires-5 c κs = search needs
 
--- src/httptofs.rt:87:9
 returns-5 : tie.Need-returns-5
-returns-5 c = ?
+returns-5 c = search (needs, status-is, status-not, status-none)
 
--- src/httptofs.rt:71:1
 returns-6 : tie.Need-returns-6
-returns-6 c = ?
+returns-6 c = search (needs, status-is, status-not, status-none)
 
 pub modem-status-spec : {M : Type 1} → statement M
 modem-status-spec =

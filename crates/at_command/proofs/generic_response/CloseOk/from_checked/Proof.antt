@@ -1,51 +1,45 @@
 use borrow.Author.Needs.{needs}
 use Rattle.at_command.proofs.generic_response.CloseOk.from_checked.Statement.{statement}
 use Rattle.at_command.proofs.generic_response.CloseOk.from_checked.Tie as tie
-use Rattle.at_command.proofs.generic_response.CloseOk.from_checked.Reads as reads
-use Rattle.at_command.proofs.generic_response.CloseOk.from_checked.Lts as lts
-use Rattle.text.proofs.bytes.ends_with.Reads as ends-with-reads
-use Rattle.text.proofs.number.parse_u64.Reads as parse-u64-reads
-use Rattle.text.proofs.part.part.Reads as part-reads
+use Rattle.text.proofs.Readings.{reader}
+use Rattle.text.proofs.Numbers.{numbers}
+use Rattle.at_command.specs.Generic.{closeText}
+use native.Mathlib.Omega.{arith}
+use Rattle.text.specs.Bytes.{bytes}
+use Rattle.at_command.proofs.generic_response.Laws.{ends-length}
 
--- src/generic_response.rt:134:36
 slice-aggregate-ends-with : tie.Need-slice-aggregate-ends-with
 slice-aggregate-ends-with c = search needs
 
--- src/generic_response.rt:134:13
 ends-with-requires : tie.Need-ends-with-requires
 ends-with-requires c κs = search needs
 
--- src/generic_response.rt:135:13
 returns : tie.Need-returns
-returns c = ?
+unfolding closeText
+returns c = search (reader, numbers)
 
--- src/generic_response.rt:137:79
 sub-part : tie.Need-sub-part
-sub-part c = ?
+sub-part c = omega (arith, ends-length (bytes ", CLOSE OK") _ _ (c .before .ends-with .ensures) (c .if1 .left))
 
--- src/generic_response.rt:137:59
 part-requires : tie.Need-part-requires
 part-requires c κs = search needs
 
--- src/generic_response.rt:137:41
 parse-u64-requires : tie.Need-parse-u64-requires
 parse-u64-requires c κs = search needs
 
--- src/generic_response.rt:137:27
 enum-known-connection : tie.Need-enum-known-connection
 enum-known-connection c = search needs
 
--- src/generic_response.rt:138:13
 enum-told : tie.Need-enum-told
 enum-told c = search needs
 
--- src/generic_response.rt:138:13
 returns-2 : tie.Need-returns-2
-returns-2 c = ?
+unfolding closeText
+returns-2 c = search (reader, numbers)
 
--- src/generic_response.rt:131:5
 returns-3 : tie.Need-returns-3
-returns-3 c = ?
+unfolding closeText
+returns-3 c = search (reader, numbers)
 
 pub from-checked-spec : {M : Type 1} → statement M
 from-checked-spec =
