@@ -1,5 +1,5 @@
 //! Stand-in for the part of the crate heapless that the published files use. It is ours: see docs/DIFFERENCES.md.
-//! As in heapless 0.7, `From<&str>` stops past N bytes and `write_str` fails past N, leaving the text as it was.
+//! `From<&str>` stops past N bytes, as cgnapn.rs says of heapless; `write_str` fails past N and leaves the text as it was.
 
 use std::fmt;
 

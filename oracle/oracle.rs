@@ -159,7 +159,7 @@ fn number<T: std::str::FromStr>(text: &[u8]) -> Option<T> {
     from_utf8(text).ok()?.parse().ok()
 }
 
-fn main() -> std::io::Result<()> {
+fn main() {
     let lines = match std::env::args().nth(1).as_deref() {
         Some("lines") => true,
         Some("requests") => false,
@@ -169,6 +169,13 @@ fn main() -> std::io::Result<()> {
         }
     };
     std::panic::set_hook(Box::new(|_| {}));
+    // Standard output fails when its reader has gone; there is nobody left to tell.
+    if answer_all(lines).is_err() {
+        std::process::exit(1);
+    }
+}
+
+fn answer_all(lines: bool) -> std::io::Result<()> {
     let mut input = std::io::BufReader::with_capacity(1 << 16, std::io::stdin());
     let mut output = std::io::BufWriter::with_capacity(1 << 16, std::io::stdout());
     let mut line = Vec::new();
