@@ -145,7 +145,7 @@ struct Tally {
 
 fn first_words(kind: Kind, answer: &[u8]) -> String {
     let text = String::from_utf8_lossy(answer);
-    let end = if kind == Kind::Lines { text.find(' ') } else { text.find(['=', '\r']) };
+    let end = if answer == b"not utf8" { None } else if kind == Kind::Lines { text.find(' ') } else { text.find(['=', '\r']) };
     text[..end.unwrap_or(text.len())].to_string()
 }
 
