@@ -1,0 +1,108 @@
+//! Document 01's domain of equality, told from the input alone. Outside of it: the entry of docs/DIFFERENCES.md, and what each side then says.
+
+use crate::texts::desk_numeral;
+use std::str::from_utf8;
+
+pub const ENTRIES: [(&str, &str); 9] = [
+    ("D1", "a line of more than 256 bytes"),
+    ("D2", "a line that is not UTF-8"),
+    ("D3", "an ICCID cut inside a character"),
+    ("D4", "a +CMGR sender of more than 20 bytes"),
+    ("D5", "a +CNTP time of more than 32 bytes"),
+    ("D6", "a +UGNSINF line of more than 21 fields"),
+    ("D7", "a float that is no desk numeral"),
+    ("D8", "a request text that is too long"),
+    ("D9", "a request text with a byte outside 32 to 126"),
+];
+
+/// `rust` is None where the entry leaves the Rust's answer open.
+pub struct Outside {
+    pub entry: &'static str,
+    pub rust: Option<&'static str>,
+    pub ours: &'static str,
+}
+
+fn outside(entry: &'static str, rust: Option<&'static str>, ours: &'static str) -> Option<Outside> {
+    Some(Outside { entry, rust, ours })
+}
+
+const STOPS: Option<&str> = Some("stopped");
+
+/// `line` without its LF and the CR before it.
+pub fn line(line: &[u8]) -> Option<Outside> {
+    if line.len() > 256 {
+        return outside("D1", None, "refused 1");
+    }
+    let line = match from_utf8(line) {
+        Ok(line) => line,
+        Err(_) => return outside("D2", Some("not utf8"), "refused 2"),
+    };
+    if iccid_cut_inside(line) {
+        return outside("D3", STOPS, "refused 3");
+    }
+    if let Some(rest) = line.strip_prefix("+CMGR: ") {
+        let fields: Vec<&str> = rest.split(',').collect();
+        if fields.len() >= 3 && fields[1].trim_matches('"').len() > 20 {
+            return outside("D4", STOPS, "refused 4");
+        }
+    }
+    if let Some(rest) = line.strip_prefix("+CNTP: ") {
+        let (code, time) = rest.split_at(rest.find(',').unwrap_or(rest.len()));
+        if time.len() > 1 + 32 {
+            let known = ["1", "61", "62", "63", "64", "65"].contains(&code);
+            return outside("D5", STOPS, if known { "refused 4" } else { "refused 3" });
+        }
+    }
+    if let Some(rest) = line.strip_prefix("+UGNSINF: ") {
+        let fields: Vec<&str> = rest.split(',').collect();
+        if fields.len() > 21 {
+            return outside("D6", None, "refused 3");
+        }
+        let read = fields.len() == 21 && fields[0] == "1" && fields[1] == "1";
+        let floats = [3, 4, 5, 6, 7, 10, 11, 12];
+        if read && floats.iter().any(|&at| !fields[at].is_empty() && !desk_numeral(fields[at])) {
+            return outside("D7", None, "refused 3");
+        }
+    }
+    None
+}
+
+/// Bytes 2, 4 and 6 are where the Rust cuts, each only if what stands before it was good.
+fn iccid_cut_inside(line: &str) -> bool {
+    let line = line.trim_end_matches(['f', 'F']);
+    if line.len() != 19 && line.len() != 20 {
+        return false;
+    }
+    if !line.is_char_boundary(2) {
+        return true;
+    }
+    if !line.starts_with("89") {
+        return false;
+    }
+    if !line.is_char_boundary(4) {
+        return true;
+    }
+    line[2..4].parse::<u8>().is_ok() && !line.is_char_boundary(6)
+}
+
+pub fn request(line: &[u8]) -> Option<Outside> {
+    let fields: Vec<&[u8]> = line.split(|&byte| byte == b'\t').collect();
+    let texts: Vec<(&[u8], usize)> = match (fields[0], fields.len()) {
+        (b"SetManualOperator", 2) => vec![(fields[1], 6)],
+        (b"SynchronizeNetworkTime", 4) if reads::<u16>(fields[2]) && reads::<u8>(fields[3]) => vec![(fields[1], 64)],
+        (b"DownloadToFileSystem", 3) => vec![(fields[1], 64), (fields[2], 32)],
+        _ => return None,
+    };
+    let utf8 = texts.iter().all(|(text, _)| from_utf8(text).is_ok());
+    if texts.iter().any(|(text, most)| text.len() > *most) {
+        return outside("D8", if utf8 { STOPS } else { Some("not utf8") }, "refused 5");
+    }
+    if texts.iter().any(|(text, _)| text.iter().any(|byte| !(32..=126).contains(byte))) {
+        return outside("D9", if utf8 { None } else { Some("not utf8") }, "refused 6");
+    }
+    None
+}
+
+fn reads<T: std::str::FromStr>(text: &[u8]) -> bool {
+    from_utf8(text).map_or(false, |text| text.parse::<T>().is_ok())
+}
