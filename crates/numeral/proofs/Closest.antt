@@ -1,8 +1,8 @@
 -- `closest a b` is the whole number nearest to a / b, the even one at a half: what it is by the remainder, and that no other is nearer.
 use mathlib.Core.Path.{_≡_, refl, sym, ap, _∙_}
-use mathlib.Core.Logic.{_⊎_, inl, inr}
+use mathlib.Core.Logic.{inl, inr}
 use mathlib.Core.Bool.{Bool, true, false, cond}
-use Prim.Native.Nat.{ℕ, suc, _+_, _-_, _*_, _/_, _%_, _≤_, _<_, compare, Ordering, Ordering·lt, Ordering·eq, Ordering·gt}
+use Prim.Native.Nat.{ℕ, _+_, _*_, _/_, _%_, _≤_, _<_, compare, Ordering, Ordering·lt, Ordering·eq, Ordering·gt}
 use native.Mathlib.Nat.{le-trans, le-of-eq, eq-or-lt-of-le, add-mul, suc-mul, mul-le-mul-right, div-add-mod', mod-lt, le-div-iff-mul-le, div-lt-iff-lt-mul}
 use native.Mathlib.Omega.{arith}
 use lib.Dec.{isLe, isEq, leb, eqb}
@@ -10,7 +10,7 @@ use lib.Arith.{digits-div, digits-mod}
 use lib.Ieee.{nearest}
 use lib.Ieee.Fits.{nearest-le}
 use lib.Ieee.Nearest.{closest, nearest-ge}
-use borrow.Author.Tests.{eq-eqb, ne-eqb, le-leb, lt-leb, leb-true, leb-false, eqb-true, eqb-false}
+use borrow.Author.Tests.{eq-eqb, ne-eqb, le-leb, lt-leb, leb-true, leb-false}
 use Rattle.numeral.specs.Nearest.{apart}
 
 -- ---- by the remainder
@@ -53,12 +53,12 @@ pub record Half (a b q : ℕ) : Type 0 where
   pub over-even : 2 * (q * b) ≡ 2 * a + b → q % 2 ≡ 0
   pub under-even : 2 * a ≡ 2 * (q * b) + b → q % 2 ≡ 0
 
-data Three (a b : ℕ) : Type 0 where
+pub data Three (a b : ℕ) : Type 0 where
   less : a < b → Three a b
   same : a ≡ b → Three a b
   more : b < a → Three a b
 
-three : (a b : ℕ) → Three a b
+pub three : (a b : ℕ) → Three a b
 three a b = go (leb a b) (leb-true a b) (leb-false a b)
   where
     go : (t : Bool) → (t ≡ true → a ≤ b) → (t ≡ false → b < a) → Three a b

@@ -1,6 +1,6 @@
 -- The bit pattern of a rounded fraction is one sum: of the exponent at its place and the rounded significand, whose carry is the next exponent's.
 use mathlib.Core.Path.{_≡_, refl, sym, ap, _∙_, subst}
-use mathlib.Core.Logic.{_⊎_, inl, inr}
+use mathlib.Core.Logic.{inl, inr}
 use mathlib.Core.Bool.{Bool, true, false, not, cond}
 use Prim.Native.Nat.{ℕ, zero, suc, _+_, _-_, _*_, _/_, _^_, _≤_, _<_}
 use native.Mathlib.Nat.{add-assoc, mul-mul-mul-comm, one-le-pow, pow-le-pow-right, le-trans, le-of-eq, le-antisymm, lt-of-lt-of-le, lt-of-le-of-lt, lt-of-not-le, lt-irrefl, eq-or-lt-of-le, mul-comm, mul-assoc, mul-right-comm, mul-le-mul-right, mul-lt-mul-of-pos-right, mul-pos, mul-div-cancel, le-div-iff-mul-le, div-lt-iff-lt-mul, pow-succ'}

@@ -1,48 +1,28 @@
 -- What is still to be said of a numeral when some of its bytes were read: `rest` of the bytes that follow. One law for each turn of the loop, and for each way out.
 use mathlib.Core.Path.{_≡_, refl, sym, ap, _∙_}
-use mathlib.Core.Bool.{Bool, true, false, cond, _&&_}
+use mathlib.Core.Bool.{Bool, true, false, cond}
 use mathlib.Core.List.{List, [], _∷_, _++_}
 use mathlib.Core.Option.{Option, none, some}
 use Prim.Native.Nat.{ℕ, suc, _+_, _-_, _*_, _^_, _≤_, _<_}
 use native.Mathlib.Nat.{add-mul, mul-assoc, add-zero, mul-one, zero-add, zero-mul, pow-succ'}
 use native.Mathlib.Numerals.{add-one}
 use native.Mathlib.Omega.{arith}
-use lib.Dec.{eqb, ltb, leb}
-use lib.ListN.{length, take, drop, getD, drop-of-length-le, length-drop}
+use lib.Dec.{ltb}
+use lib.ListN.{length, drop, getD, drop-of-length-le, length-drop}
 use lib.Seq.{drop-cons}
-use lib.Pow.{pow-add}
-use borrow.Author.Tests.{eq-eqb, ne-eqb, lt-ltb, le-ltb, le-leb, lt-leb, leb-true, ltb-false}
-use Rattle.text.specs.Bytes.{within, indexOf}
+use borrow.Author.Tests.{ne-eqb, lt-ltb, le-ltb, le-leb, lt-leb, ltb-false}
+use Rattle.text.specs.Bytes.{within}
 use Rattle.text.specs.Part.{before, after}
 use Rattle.text.specs.Number.{digitValue, below, prefixed, digitsOf, valueOf}
 use Rattle.numeral.specs.Numeral.{Decimal, point, decimal, behindSign}
-
--- ---- what a byte is worth
-
-digit-value : (c : ℕ) → 48 ≤ c → c ≤ 57 → below 10 (digitValue c) ≡ some (c - 48)
-unfolding digitValue
-digit-value c lo hi =
-    let u : c - 48 < 10 = omega arith in
-    rw (le-leb 48 c lo, le-leb c 57 hi, lt-ltb (c - 48) 10 u)
-
-no-letter : (lo hi k c : ℕ) → k + 10 ≤ lo → (o : Option ℕ) → below 10 o ≡ none → below 10 (cond (within lo hi c) (some (c - k)) o) ≡ none
-no-letter lo hi k c h o e = go (leb lo c) (leb c hi) (leb-true lo c)
-  where
-    go : (a b : Bool) → (a ≡ true → lo ≤ c) → below 10 (cond (a && b) (some (c - k)) o) ≡ none
-    go true true l = let u : 10 ≤ c - k = omega (arith, l refl) in rw (le-ltb (c - k) 10 u)
-    go true false l = e
-    go false b l = e
-
-pub no-digit : (c : ℕ) → within 48 57 c ≡ false → below 10 (digitValue c) ≡ none
-unfolding digitValue
-no-digit c e = rw e (no-letter 65 70 55 c (omega arith) _ (no-letter 97 102 87 c (omega arith) none refl))
+use Rattle.numeral.proofs.Digits.{digit-value, no-digit}
 
 -- ---- k digits make the number a; those that follow make the decimal with them, p places behind the point
 
 abbrev joined : Bool → ℕ → ℕ → ℕ → Option (List ℕ) → Option Decimal
 joined n a k p none = none
 joined n a k p (some ds) =
-    cond (within 1 15 (k + length ds)) (some (record { negative = n; units = a * 10 ^ length ds + valueOf 10 ds; places = p })) none
+    cond (within 1 15 (k + length ds)) (some (record { negative = n; number = a * 10 ^ length ds + valueOf 10 ds; places = p })) none
 
 joined-none : (n : Bool) (p : ℕ) (o : Option (List ℕ)) → joined n 0 0 p o ≡ decimal n p o
 joined-none n p none = refl
@@ -79,13 +59,13 @@ places false p l = length (after point l)
 unfoldable pub rest : Bool → ℕ → ℕ → ℕ → Bool → List ℕ → Option Decimal
 rest n a k p seen l = joined n a k (places seen p l) (digitsOf 10 (digits seen l))
 
+-- at a byte that is no point; behind the point; at the end
+
 module _ (n : Bool) (a k p c : ℕ) (l : List ℕ) where
   no-point : (seen : Bool) → (c ≡ 46 → ⊥) → rest n a k p seen (c ∷ l) ≡ joined n a k (places seen p l) (prefixed (below 10 (digitValue c)) (digitsOf 10 (digits seen l)))
   unfolding rest digitsOf
   no-point true h = refl
   no-point false h = rw (ne-eqb c 46 h, add-one, add-one) refl
-
--- ---- the loop over the bytes of s, from `start` on: at i, behind k digits that make a, with the digits behind the point from `back` on
 
 after-point : (n : Bool) (a k p : ℕ) (t : Bool) (l : List ℕ) → length l ≡ p → (t ≡ false → l ≡ []) → joined n a k (length l) (digitsOf 10 l) ≡ rest n a k p t l
 unfolding rest
@@ -93,10 +73,12 @@ after-point n a k p true l e f = rw e
 after-point n a k p false l e f = rw (f refl)
 
 at-end : (n : Bool) (a k p : ℕ) (t : Bool) → (t ≡ false → p ≡ 0)
-    → joined n a k (places t p []) (digitsOf 10 (digits t [])) ≡ cond (within 1 15 k) (some (record { negative = n; units = a; places = p })) none
+    → joined n a k (places t p []) (digitsOf 10 (digits t [])) ≡ cond (within 1 15 k) (some (record { negative = n; number = a; places = p })) none
 unfolding digitsOf valueOf
 at-end n a k p true f = simp (add-zero, mul-one)
 at-end n a k p false f = simp (add-zero, mul-one, f refl)
+
+-- ---- the loop over the bytes of s, from `start` on: at i, behind k digits that make a, with the digits behind the point from `back` on
 
 abbrev pub Loop : (s : List ℕ) (start : ℕ) (n : Bool) (a k back i : ℕ) → Type 0
 Loop s start n a k back i = behindSign n (drop start s) ≡ rest n a k (length s - back) (ltb back (length s)) (drop i s)
@@ -142,7 +124,7 @@ module _ (s : List ℕ) (start : ℕ) (n : Bool) (a k back i : ℕ) (inv : Loop 
     unfolding rest digitsOf
     no-digits e = rw (inv, drop-of-length-le s h, at-end n a k (length s - back) (ltb back (length s)) (λ f. omega (arith, ltb-false back (length s) f)), e)
 
-    pub all-digits : (k ≡ 0 → ⊥) → k ≤ 15 → some (record { negative = n; units = a; places = length s - back }) ≡ behindSign n (drop start s)
+    pub all-digits : (k ≡ 0 → ⊥) → k ≤ 15 → some (record { negative = n; number = a; places = length s - back }) ≡ behindSign n (drop start s)
     unfolding rest digitsOf
     all-digits e l =
         let g : 1 ≤ k = omega arith in

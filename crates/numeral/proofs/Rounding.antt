@@ -17,22 +17,25 @@ use borrow.Author.Tests.{ltb-true, ltb-false}
 use Rattle.numeral.specs.Nearest.{Nearest, apart}
 use Rattle.numeral.proofs.Closest.{Half, closest-half, closest-ge, closest-le, multiple, multiple-even, below}
 
+pub scaled : (p j K : ℕ) → K ≤ j → p * 2 ^ j ≡ p * 2 ^ (j - K) * 2 ^ K
+scaled p j K l =
+    let e : j ≡ j - K + K = omega arith in
+    ap (λ (x : ℕ). p * 2 ^ x) e ∙ ap (λ (x : ℕ). p * x) (pow-add 2 (j - K) K) ∙ sym (mul-assoc p (2 ^ (j - K)) (2 ^ K))
+
+-- one binary digit fewer, at one place more or above
+pub shorter : (p j K : ℕ) → p < 2 ^ 24 → j < K → p * 2 ^ j < 2 ^ 23 * 2 ^ K
+shorter p j K P l =
+    lt-of-lt-of-le (mul-lt-mul-of-pos-right P (pow-pos j))
+    (le-trans (le-of-eq (sym (pow-add 2 24 j))) (le-trans (pow-mono {i = 24 + j} {j = 23 + K} (omega arith)) (le-of-eq (pow-add 2 23 K))))
+
 -- ---- every magnitude of an f32 is a multiple of D * 2 ^ K, in units times D, or lies below 2 ^ 23 of them
 
 module _ (N D K q : ℕ) (D-pos : 0 < D) (h : Half N (D * 2 ^ K) q) (full : (K ≡ 0) ⊎ (2 ^ 23 * (D * 2 ^ K) ≤ N)) where
   in-units : (x : ℕ) → x * 2 ^ K * D ≡ x * (D * 2 ^ K)
   in-units x = mul-assoc x (2 ^ K) D ∙ ap (λ (y : ℕ). x * y) (mul-comm (2 ^ K) D)
 
-  scaled : (p j : ℕ) → K ≤ j → p * 2 ^ j ≡ p * 2 ^ (j - K) * 2 ^ K
-  scaled p j l =
-      let e : j ≡ j - K + K = omega arith in
-      ap (λ (x : ℕ). p * 2 ^ x) e ∙ ap (λ (x : ℕ). p * x) (pow-add 2 (j - K) K) ∙ sym (mul-assoc p (2 ^ (j - K)) (2 ^ K))
-
   low : (p j : ℕ) → p < 2 ^ 24 → j < K → p * 2 ^ j * D < 2 ^ 23 * (D * 2 ^ K)
-  low p j P l =
-      let a : p * 2 ^ j < 2 ^ 24 * 2 ^ j = mul-lt-mul-of-pos-right P (pow-pos j) in
-      let b : 2 ^ 24 * 2 ^ j ≤ 2 ^ 23 * 2 ^ K = le-trans (le-of-eq (sym (pow-add 2 24 j))) (le-trans (pow-mono {i = 24 + j} {j = 23 + K} (omega arith)) (le-of-eq (pow-add 2 23 K))) in
-      lt-of-lt-of-le (mul-lt-mul-of-pos-right (lt-of-lt-of-le a b) D-pos) (le-of-eq (in-units (2 ^ 23)))
+  low p j P l = lt-of-lt-of-le (mul-lt-mul-of-pos-right (shorter p j K P l) D-pos) (le-of-eq (in-units (2 ^ 23)))
 
   further : (p j : ℕ) → p < 2 ^ 24 → j < K → apart N (q * (D * 2 ^ K)) < apart N (p * 2 ^ j * D)
   further p j P l = elim full [
@@ -45,7 +48,7 @@ module _ (N D K q : ℕ) (D-pos : 0 < D) (h : Half N (D * 2 ^ K) q) (full : (K �
     where
       go : (t : Bool) → (t ≡ true → j < K) → (t ≡ false → K ≤ j) → apart N (q * (D * 2 ^ K)) ≤ apart N (p * 2 ^ j * D)
       go true l g = le-of-lt (further p j P (l refl))
-      go false l g = rw (scaled p j (g refl), in-units (p * 2 ^ (j - K))) (multiple N (D * 2 ^ K) q h (p * 2 ^ (j - K)))
+      go false l g = rw (scaled p j K (g refl), in-units (p * 2 ^ (j - K))) (multiple N (D * 2 ^ K) q h (p * 2 ^ (j - K)))
 
   pub nearest-even : (p j : ℕ) → p < 2 ^ 24 → (p * 2 ^ j ≡ q * 2 ^ K → ⊥) → apart N (p * 2 ^ j * D) ≡ apart N (q * 2 ^ K * D) → q % 2 ≡ 0
   nearest-even p j P n e = go (ltb j K) (ltb-true j K) (ltb-false j K) (rw (in-units q) at e)
@@ -53,8 +56,8 @@ module _ (N D K q : ℕ) (D-pos : 0 < D) (h : Half N (D * 2 ^ K) q) (full : (K �
       go : (t : Bool) → (t ≡ true → j < K) → (t ≡ false → K ≤ j) → apart N (p * 2 ^ j * D) ≡ apart N (q * (D * 2 ^ K)) → q % 2 ≡ 0
       go true l g x = absurd (lt-irrefl (apart N (q * (D * 2 ^ K))) (lt-of-lt-of-le (further p j P (l refl)) (le-of-eq x)))
       go false l g x =
-          multiple-even N (D * 2 ^ K) q h (p * 2 ^ (j - K)) (λ v. n (scaled p j (g refl) ∙ ap (λ (y : ℕ). y * 2 ^ K) v))
-          (rw (scaled p j (g refl), in-units (p * 2 ^ (j - K))) at x)
+          multiple-even N (D * 2 ^ K) q h (p * 2 ^ (j - K)) (λ v. n (scaled p j K (g refl) ∙ ap (λ (y : ℕ). y * 2 ^ K) v))
+          (rw (scaled p j K (g refl), in-units (p * 2 ^ (j - K))) at x)
 
 -- ---- `round` drops as many binary digits as leave 24
 

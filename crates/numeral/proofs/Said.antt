@@ -1,75 +1,22 @@
--- What the paper's function says is what the grammar says, and no text says two things: `sound`, `complete`, `single`.
+-- What the paper's function says is what the grammar says: `sound`, `complete`, `unsaid`, `silent`; and no text says two things: `single`.
 use mathlib.Core.Path.{_≡_, refl, sym, ap, _∙_, subst}
 use mathlib.Core.Bool.{Bool, true, false, cond, _&&_, _||_}
 use mathlib.Core.List.{List, [], _∷_, _++_, append-nil}
 use mathlib.Core.Option.{Option, none, some}
-use Prim.Native.Nat.{ℕ, suc, _+_, _*_, _^_, _≤_, _<_}
-use native.Mathlib.Nat.{pow-le-pow-right, pow-succ', add-zero, zero-add, mul-le-mul-right}
+use Prim.Native.Nat.{ℕ, _+_, _^_, _≤_, _<_}
+use native.Mathlib.Nat.{pow-le-pow-right, add-zero, zero-add}
 use native.Mathlib.Numerals.{add-one}
 use native.Mathlib.Omega.{arith}
-use lib.Dec.{eqb, ltb, leb}
+use lib.Dec.{eqb, leb}
 use lib.ListN.{length, take, drop, length-append, drop-of-length-le}
 use lib.Seq.{take-length, take-append-seam, drop-append-add}
-use borrow.Author.Tests.{ne-eqb, eqb-true, le-leb, leb-true, ltb-true}
-use Rattle.text.specs.Bytes.{bytes, within, startsWith, indexOf}
+use borrow.Author.Tests.{ne-eqb, eqb-true, le-leb, leb-true}
+use Rattle.text.specs.Bytes.{bytes, startsWith, indexOf}
 use Rattle.text.specs.Part.{before, after}
-use Rattle.text.specs.Number.{digitValue, below, prefixed, digitsOf, valueOf}
+use Rattle.text.specs.Number.{digitsOf, valueOf}
 use Rattle.numeral.specs.Numeral.{Decimal, point, unsigned, decimal, behindSign, decimalOf}
 use Rattle.numeral.specs.Grammar.{Sign, bare, plus, minus, Body, whole, pointed, Says}
-use Rattle.numeral.proofs.Rest.{no-digit}
-
-no : {A B : Type 0} {a : A} → _≡_ {A = Option A} none (some a) → B
-no e = let z : _≡_ {A = ℕ} 0 1 = cc in absurd (omega arith)
-
-pub never : {A : Type 0} {o : Option A} {a : A} → o ≡ none → o ≡ some a → ⊥
-never e f = no (sym e ∙ f)
-
--- ---- digits
-
-below-lt : (o : Option ℕ) (v : ℕ) → below 10 o ≡ some v → v < 10
-below-lt none v e = no e
-below-lt (some w) v e = go (ltb w 10) (ltb-true w 10) e
-  where
-    go : (t : Bool) → (t ≡ true → w < 10) → cond t (some w) none ≡ some v → v < 10
-    go true l e = let z : w ≡ v = cc in omega (arith, l refl)
-    go false l e = no e
-
-digit-ge : (x v : ℕ) → below 10 (digitValue x) ≡ some v → 48 ≤ x
-digit-ge x v e = go (leb 48 x) (leb x 57) (leb-true 48 x) (λ w. no-digit x w)
-  where
-    go : (a b : Bool) → (a ≡ true → 48 ≤ x) → (a && b ≡ false → below 10 (digitValue x) ≡ none) → 48 ≤ x
-    go true b l n = l refl
-    go false b l n = no (sym (n refl) ∙ e)
-
-record First (x : ℕ) (l ds : List ℕ) : Type 0 where
-  worth : ℕ
-  others : List ℕ
-  is : below 10 (digitValue x) ≡ some worth
-  are : digitsOf 10 l ≡ some others
-  all : worth ∷ others ≡ ds
-
-first : (x : ℕ) (l ds : List ℕ) → digitsOf 10 (x ∷ l) ≡ some ds → First x l ds
-unfolding digitsOf
-first x l ds e = go (below 10 (digitValue x)) (digitsOf 10 l) refl refl e
-  where
-    go : (v : Option ℕ) (o : Option (List ℕ)) → below 10 (digitValue x) ≡ v → digitsOf 10 l ≡ o → prefixed v o ≡ some ds → First x l ds
-    go none o p q e = no e
-    go (some v) none p q e = no e
-    go (some v) (some vs) p q e = record { worth = v; others = vs; is = p; are = q; all = cc }
-
-digits-length : (l ds : List ℕ) → digitsOf 10 l ≡ some ds → length ds ≡ length l
-unfolding digitsOf
-digits-length [] ds e = let z : [] ≡ ds = cc in ap length (sym z)
-digits-length (x ∷ l) ds e = let f = first x l ds e in ap length (sym (f .all)) ∙ ap suc (digits-length l (f .others) (f .are))
-
-digits-value : (l ds : List ℕ) → digitsOf 10 l ≡ some ds → valueOf 10 ds < 10 ^ length ds
-unfolding digitsOf valueOf
-digits-value [] ds e = let z : [] ≡ ds = cc in rw (sym z) (omega arith)
-digits-value (x ∷ l) ds e =
-    let f = first x l ds e in
-    let h : f .worth ≤ 9 = omega (arith, below-lt (digitValue x) (f .worth) (f .is)) in
-    let p : f .worth * 10 ^ length (f .others) ≤ 9 * 10 ^ length (f .others) = mul-le-mul-right (10 ^ length (f .others)) h in
-    rw (sym (f .all), pow-succ' 10 (length (f .others))) (omega (arith, digits-value l (f .others) (f .are)))
+use Rattle.numeral.proofs.Digits.{no, never, digit-ge, first, digits-length, digits-value}
 
 -- ---- what `decimal` makes
 
@@ -78,14 +25,14 @@ record Made (n : Bool) (p : ℕ) (o : Option (List ℕ)) (d : Decimal) : Type 0 
   are : o ≡ some digits
   at-least : 1 ≤ length digits
   at-most : length digits ≤ 15
-  is : d ≡ record { negative = n; units = valueOf 10 digits; places = p }
+  is : d ≡ record { negative = n; number = valueOf 10 digits; places = p }
 
 made : (n : Bool) (p : ℕ) (o : Option (List ℕ)) (d : Decimal) → decimal n p o ≡ some d → Made n p o d
 made n p none d e = no e
 made n p (some ds) d e = go (leb 1 (length ds)) (leb (length ds) 15) (leb-true 1 (length ds)) (leb-true (length ds) 15) e
   where
     go : (a b : Bool) → (a ≡ true → 1 ≤ length ds) → (b ≡ true → length ds ≤ 15)
-        → cond (a && b) (some (record { negative = n; units = valueOf 10 ds; places = p })) none ≡ some d → Made n p (some ds) d
+        → cond (a && b) (some (record { negative = n; number = valueOf 10 ds; places = p })) none ≡ some d → Made n p (some ds) d
     go true true l h e = record { digits = ds; are = refl; at-least = l refl; at-most = h refl; is = cc }
     go true false l h e = no e
     go false b l h e = no e
@@ -138,7 +85,7 @@ sound s d e =
       are-digits = m .are;
       at-least = m .at-least;
       at-most = m .at-most;
-      value = ap (λ (x : Decimal). x .units) (m .is);
+      value = ap (λ (x : Decimal). x .number) (m .is);
       places = ap (λ (x : Decimal). x .places) (m .is);
     }
 
@@ -182,10 +129,22 @@ complete s d r =
 pub single : (s : List ℕ) (d e : Decimal) → Says s d → Says s e → d ≡ e
 single s d e a b = let p = complete s d a in let q = complete s e b in cc
 
+-- refused exactly where nothing is said
+pub unsaid : (s : List ℕ) → decimalOf s ≡ none → (d : Decimal) → Says s d → ⊥
+unsaid s e d r = never e (complete s d r)
+
+pub silent : (s : List ℕ) → ((d : Decimal) → Says s d → ⊥) → decimalOf s ≡ none
+silent s f = go (decimalOf s) refl
+  where
+    go : (o : Option Decimal) → decimalOf s ≡ o → decimalOf s ≡ none
+    go none e = e
+    go (some d) e = absurd (f d (sound s d e))
+
 -- ---- a numeral's two numbers are small
 
-pub small : (s : List ℕ) (d : Decimal) → decimalOf s ≡ some d → (d .units < 10 ^ 15) × (d .places ≤ 15)
+pub small : (s : List ℕ) (d : Decimal) → decimalOf s ≡ some d → (d .number < 10 ^ 15) × (d .places ≤ 15)
 small s d e =
     let r = sound s d e in
     let p : 10 ^ length (r .digits) ≤ 10 ^ 15 = pow-le-pow-right {n = 10} (omega arith) {i = length (r .digits)} {j = 15} (r .at-most) in
-    (omega (arith, digits-value (r .front ++ r .back) (r .digits) (r .are-digits), r .value), omega (arith, digits-length (r .front ++ r .back) (r .digits) (r .are-digits), length-append (r .front) (r .back), r .places, r .at-most))
+    let n = digits-length (r .front ++ r .back) (r .digits) (r .are-digits) in
+    (omega (arith, digits-value (r .front ++ r .back) (r .digits) (r .are-digits), r .value), omega (arith, n, length-append (r .front) (r .back), r .places, r .at-most))

@@ -1,5 +1,5 @@
 -- A table whose entry at each place is f of the place: it is `tabled f 0 n`, which antt computes, and so is each of its entries.
-use mathlib.Core.Path.{_≡_, refl, ap, _∙_}
+use mathlib.Core.Path.{_≡_, ap, _∙_}
 use mathlib.Core.List.{List, [], _∷_}
 use Prim.Native.Nat.{ℕ, zero, suc, _+_, _<_}
 use native.Mathlib.Nat.{zero-add}

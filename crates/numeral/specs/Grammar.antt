@@ -1,9 +1,9 @@
 -- The same by a grammar, with nothing computed: which texts are numerals, and the exact decimal that each says.
-use Prim.Native.Nat.{ℕ, _+_, _≤_}
+use Prim.Native.Nat.{ℕ, _≤_}
 use mathlib.Core.Path.{_≡_}
 use mathlib.Core.Bool.{Bool, true, false}
 use mathlib.Core.List.{List, [], _∷_, _++_}
-use mathlib.Core.Option.{Option, none, some}
+use mathlib.Core.Option.{some}
 use lib.ListN.{length}
 use Rattle.text.specs.Bytes.{bytes}
 use Rattle.text.specs.Number.{digitsOf, valueOf}
@@ -33,5 +33,5 @@ pub record Says (s : List ℕ) (d : Decimal) : Type 0 where
   pub are-digits : digitsOf 10 (front ++ back) ≡ some digits
   pub at-least : 1 ≤ length digits
   pub at-most : length digits ≤ 15
-  pub value : d .units ≡ valueOf 10 digits
+  pub value : d .number ≡ valueOf 10 digits
   pub places : d .places ≡ length back

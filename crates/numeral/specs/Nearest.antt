@@ -16,7 +16,7 @@ abbrev pub apart : ℕ → ℕ → ℕ
 apart a b = (a - b) + (b - a)
 
 -- x has the sign s and the magnitude sig * 2 ^ drop units. In units times D, no magnitude of an f32 is nearer to m / D, and where another is as near, sig is even.
--- sig is the whole significand: it has 24 binary digits, or is the carry to the 25th, unless x is so small that none is dropped.
+-- (One of the other sign lies beyond zero, which is among them.) sig is the whole significand: it has 24 binary digits, or is the carry to the 25th, unless x is so small that none is dropped.
 pub record Nearest (s : Bool) (m D : ℕ) (x : Float) : Type 0 where
   pub sig : ℕ
   pub drop : ℕ
@@ -28,5 +28,5 @@ pub record Nearest (s : Bool) (m D : ℕ) (x : Float) : Type 0 where
 
 -- what is answered to the text s: the f32 nearest to the decimal that it says, or none where it says none
 pub data Answers (s : List ℕ) : Option Float → Type 0 where
-  value : {d : Decimal} {x : Float} → Says s d → Nearest (d .negative) (d .units) (10 ^ d .places) x → Answers s (some x)
+  value : {d : Decimal} {x : Float} → Says s d → Nearest (d .negative) (d .number) (10 ^ d .places) x → Answers s (some x)
   refused : ((d : Decimal) → Says s d → ⊥) → Answers s none

@@ -102,9 +102,13 @@ fn nearest(negative: bool, m: u64, k: usize) -> f32
     f32::from_bits(bits)
 }
 
-// A decimal m / 10^k, or its negation.
+// The decimal number / 10^places, or its negation; or none.
 enum Scanned {
-    Exact { negative: bool, m: u64, k: usize },
+    Exact {
+        negative: bool,
+        number: u64,
+        places: usize,
+    },
     Not,
 }
 
@@ -146,8 +150,8 @@ fn digits_from(s: &[u8], start: usize, negative: bool) -> Scanned
     }
     Scanned::Exact {
         negative: negative,
-        m: m,
-        k: s.len() - back,
+        number: m,
+        places: s.len() - back,
     }
 }
 
@@ -179,7 +183,11 @@ pub fn read(s: &[u8]) -> Numeral
     ensures nearest { λ r. ⌜ Answers (now (s .entry)) (told r) ⌝ }
 {
     match scan(s) {
-        Scanned::Exact { negative, m, k } => Numeral::Value(nearest(negative, m, k)),
+        Scanned::Exact {
+            negative,
+            number,
+            places,
+        } => Numeral::Value(nearest(negative, number, places)),
         Scanned::Not => Numeral::Refused,
     }
 }

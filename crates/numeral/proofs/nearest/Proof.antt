@@ -1,7 +1,7 @@
 -- The pattern with its sign is the rounded decimal's, and is read back as that.
-use mathlib.Core.Path.{_≡_, _∙_}
+use mathlib.Core.Path.{_∙_}
 use mathlib.Core.Bool.{true, false}
-use Prim.Native.Nat.{_+_, _^_}
+use Prim.Native.Nat.{_^_}
 use native.Mathlib.Nat.{zero-add}
 use native.Mathlib.Omega.{arith}
 use borrow.Author.Needs.{needs}

@@ -1,5 +1,5 @@
 -- The count of leading zeros and the place of the highest set bit make 63.
-use mathlib.Core.Path.{_≡_, ap, subst}
+use mathlib.Core.Path.{_≡_, subst}
 use Prim.Native.Nat.{ℕ, suc, _+_, _-_, _*_, _^_, _≤_, _<_}
 use native.Mathlib.Nat.{le-trans, le-of-eq, lt-of-lt-of-le, lt-of-not-le, lt-irrefl, mul-le-mul-right}
 use native.Mathlib.Omega.{arith}
@@ -30,7 +30,7 @@ module _ (x j z : ℕ) (h : x < 2 ^ 50) (e : z + suc j ≡ 64) (lo : 2 ^ j ≤ x
 sub-result : tie.Need-sub-result
 sub-result c =
     let t = leading-top 64 (c .args .x) (c .pre .0) (c .fits .x .fits) in
-    enough (c .args .x) (t .0) (leadingZeros 64 (c .args .x)) (c .pre .1) (t .1) (t .2) (t .3)
+    omega (arith, enough (c .args .x) (t .0) (leadingZeros 64 (c .args .x)) (c .pre .1) (t .1) (t .2) (t .3))
 
 returns : tie.Need-returns
 returns c =
