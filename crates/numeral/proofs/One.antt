@@ -1,4 +1,4 @@
--- The contract of `read` leaves no second answer: `told` has an inverse, and over whole numbers alone two answers to a text have one value. What a caller learns of it.
+-- The contract of `read` leaves no second answer: `told` has an inverse, and over whole numbers alone two answers to a text have one value.
 use mathlib.Core.Path.{_≡_, refl, sym, ap, _∙_, subst}
 use mathlib.Core.Bool.{Bool}
 use mathlib.Core.List.{List}
@@ -41,11 +41,3 @@ alike s (is-value {d = d} m n) (is-value {d = e} {x = y} k l) =
 alike s (is-value {d = d} m n) (is-refused f) = f d m
 alike s (is-refused f) (is-value {d = d} m n) = f d m
 alike s (is-refused f) (is-refused g) = tt
-
--- what a caller learns of the text by the variant that it matched
-module _ (s : List ℕ) (r : Numeral) (e : told r ≡ floatOf s) where
-  pub read-value : (x : Float) → r ≡ Value x → floatOf s ≡ some x
-  read-value x p = sym e ∙ ap told p
-
-  pub read-refused : r ≡ Refused → floatOf s ≡ none
-  read-refused p = sym e ∙ ap told p

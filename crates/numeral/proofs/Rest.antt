@@ -9,11 +9,11 @@ use native.Mathlib.Numerals.{add-one}
 use native.Mathlib.Omega.{arith}
 use lib.Dec.{ltb}
 use lib.ListN.{length, drop, getD, drop-of-length-le, length-drop}
-use lib.Seq.{drop-cons}
 use borrow.Author.Tests.{ne-eqb, lt-ltb, le-ltb, le-leb, lt-leb, ltb-false}
 use Rattle.text.specs.Bytes.{within}
 use Rattle.text.specs.Part.{before, after}
 use Rattle.text.specs.Number.{digitValue, below, prefixed, digitsOf, valueOf}
+use Rattle.text.proofs.Rest.{at-next}
 use Rattle.numeral.specs.Numeral.{Decimal, point, decimal, behindSign}
 use Rattle.numeral.proofs.Digits.{digit-value, no-digit}
 
@@ -82,9 +82,6 @@ at-end n a k p false f = simp (add-zero, mul-one, f refl)
 
 abbrev pub Loop : (s : List ℕ) (start : ℕ) (n : Bool) (a k back i : ℕ) → Type 0
 Loop s start n a k back i = behindSign n (drop start s) ≡ rest n a k (length s - back) (ltb back (length s)) (drop i s)
-
-at-next : (s : List ℕ) (i : ℕ) → i < length s → drop i s ≡ getD s i 0 ∷ drop (i + 1) s
-at-next s i h = rw (add-one, drop-cons s i 0)
 
 pub begun : (s : List ℕ) (start : ℕ) (n : Bool) → Loop s start n 0 0 (length s) start
 unfolding rest behindSign

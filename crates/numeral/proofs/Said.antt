@@ -3,7 +3,7 @@ use mathlib.Core.Path.{_≡_, refl, sym, ap, _∙_, subst}
 use mathlib.Core.Bool.{Bool, true, false, cond, _&&_, _||_}
 use mathlib.Core.List.{List, [], _∷_, _++_, append-nil}
 use mathlib.Core.Option.{Option, none, some}
-use Prim.Native.Nat.{ℕ, _+_, _^_, _≤_, _<_}
+use Prim.Native.Nat.{ℕ, suc, _+_, _^_, _≤_, _<_}
 use native.Mathlib.Nat.{pow-le-pow-right, add-zero, zero-add}
 use native.Mathlib.Numerals.{add-one}
 use native.Mathlib.Omega.{arith}
@@ -48,9 +48,9 @@ body-of [] = whole
 body-of (x ∷ t) = go (eqb x point) (eqb-true x point) (body-of t)
   where
     go : (a : Bool) → (a ≡ true → x ≡ point) → Body t (before point t) (after point t)
-        → Body (x ∷ t) (take (cond a 0 (indexOf point t + 1)) (x ∷ t)) (drop (cond a 0 (indexOf point t + 1) + 1) (x ∷ t))
+        → Body (x ∷ t) (take (cond a 0 (suc (indexOf point t))) (x ∷ t)) (drop (cond a 0 (suc (indexOf point t)) + 1) (x ∷ t))
     go true e r = rw (e refl) pointed
-    go false e r = rw (add-one, add-one) (longer x (rw add-one at r))
+    go false e r = rw add-one (longer x (rw add-one at r))
 
 record Signed (n : Bool) (s t : List ℕ) : Type 0 where
   sign : List ℕ
@@ -58,7 +58,7 @@ record Signed (n : Bool) (s t : List ℕ) : Type 0 where
   text : s ≡ sign ++ t
 
 sign-of : (s : List ℕ) → Signed (startsWith (bytes "-") s) s (unsigned s)
-unfolding unsigned
+unfolding unsigned startsWith
 sign-of [] = record { sign = []; is = bare; text = refl }
 sign-of (x ∷ s) = go (eqb x 45) (eqb x 43) (eqb-true x 45) (eqb-true x 43)
   where
@@ -109,13 +109,14 @@ split {f = f} {b = b} pointed ds e =
 
 -- a body begins with a digit or the point, and with no sign
 no-sign : {t f b : List ℕ} → Body t f b → (ds : List ℕ) → digitsOf 10 (f ++ b) ≡ some ds → (c : ℕ) → c < 46 → startsWith (c ∷ []) t ≡ false
+unfolding startsWith
 no-sign {f = []} whole ds e c h = refl
 no-sign {f = []} {b = b} pointed ds e c h = rw (ne-eqb point c (λ q. omega arith))
 no-sign {f = x ∷ f} whole ds e c h = rw (ne-eqb x c (λ q. omega (arith, digit-ge x _ (first x (f ++ []) ds e .is))))
 no-sign {f = x ∷ f} {b = b} pointed ds e c h = rw (ne-eqb x c (λ q. omega (arith, digit-ge x _ (first x (f ++ b) ds e .is))))
 
 with-sign : {n : Bool} {g t f b : List ℕ} → Sign n g → Body t f b → (ds : List ℕ) → digitsOf 10 (f ++ b) ≡ some ds → decimalOf (g ++ t) ≡ behindSign n t
-unfolding decimalOf unsigned
+unfolding decimalOf unsigned startsWith
 with-sign bare y ds e = rw (no-sign y ds e 45 (omega arith), no-sign y ds e 43 (omega arith))
 with-sign plus y ds e = refl
 with-sign minus y ds e = refl
