@@ -1,0 +1,10 @@
+pub mod Closest
+pub mod Digits
+pub mod Examples
+pub mod One
+pub mod Pattern
+pub mod Rest
+pub mod Rounding
+pub mod Said
+pub mod Sole
+pub mod Table

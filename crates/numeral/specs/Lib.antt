@@ -1,0 +1,5 @@
+pub mod Grammar
+pub mod Nearest
+pub mod Numeral
+pub mod Place
+pub mod Told
