@@ -8,4 +8,5 @@ pub mod Generic
 pub mod Gsn
 pub mod Httptofs
 pub mod Unquoted
+pub mod Response
 pub mod says

@@ -7,3 +7,4 @@ pub mod Cpsi
 pub mod Generic
 pub mod Gsn
 pub mod Httptofs
+pub mod Response
