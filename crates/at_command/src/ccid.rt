@@ -2,8 +2,8 @@
 use text::bytes;
 use text::line;
 use text::number;
-use text::number::ParsedU64;
 use text::number::ParsedU8;
+use text::number::ParsedU64;
 use text::part;
 ghost use mathlib.Core.Path.{_≡_};
 ghost use Rattle.text.specs.Line.{checked};

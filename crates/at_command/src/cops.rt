@@ -129,7 +129,11 @@ fn operator_info<'a>(line: &'a [u8], format: &'a [u8], name: &'a [u8]) -> Operat
 }
 
 impl OperatorInfo {
-    pub(crate) fn from_checked<'a>(line: &'a [u8], format: &'a [u8], name: &'a [u8]) -> OperatorInfoAnswer
+    pub(crate) fn from_checked<'a>(
+        line: &'a [u8],
+        format: &'a [u8],
+        name: &'a [u8],
+    ) -> OperatorInfoAnswer
         ensures { λ r. ⌜ says r ≡ copsText (now (format .entry)) (now (name .entry)) (now (line .entry)) ⌝ }
     {
         if !bytes::starts_with(line, b"+COPS: ") {

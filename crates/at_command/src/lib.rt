@@ -66,11 +66,15 @@ fn last_readers(line: &[u8], j: u8) -> ResponseCodeAnswer
     ensures { λ r. ⌜ says r ≡ firstOf j (lastReadings (now (line .entry))) ⌝ }
 {
     let j1 = match NetworkTime::from_checked(line) {
-        NetworkTimeAnswer::Value(v) => return ResponseCodeAnswer::Value(ResponseCode::NetworkTime(v)),
+        NetworkTimeAnswer::Value(v) => return ResponseCodeAnswer::Value(ResponseCode::NetworkTime(
+            v,
+        )),
         NetworkTimeAnswer::Refused(k) => line::worse_of(j, k),
     };
     let j2 = match DownloadInfo::from_checked(line) {
-        DownloadInfoAnswer::Value(v) => return ResponseCodeAnswer::Value(ResponseCode::DownloadInfo(v)),
+        DownloadInfoAnswer::Value(v) => return ResponseCodeAnswer::Value(ResponseCode::DownloadInfo(
+            v,
+        )),
         DownloadInfoAnswer::Refused(k) => line::worse_of(j1, k),
     };
     let j3 = match Imei::from_checked(line) {
@@ -78,7 +82,8 @@ fn last_readers(line: &[u8], j: u8) -> ResponseCodeAnswer
         ImeiAnswer::Refused(k) => line::worse_of(j2, k),
     };
     let j4 = match SmsMessageFormat::from_checked(line) {
-        SmsMessageFormatAnswer::Value(v) => return ResponseCodeAnswer::Value(ResponseCode::SmsMessageFormat(v)),
+        SmsMessageFormatAnswer::Value(v) =>
+            return ResponseCodeAnswer::Value(ResponseCode::SmsMessageFormat(v)),
         SmsMessageFormatAnswer::Refused(k) => line::worse_of(j3, k),
     };
     match SmsMessage::from_checked(line) {
@@ -119,7 +124,8 @@ impl ResponseCode {
             SimErrorAnswer::Refused(k) => line::worse_of(j1, k),
         };
         let j3 = match WritePrompt::from_checked(line) {
-            WritePromptAnswer::Value(v) => return ResponseCodeAnswer::Value(ResponseCode::WritePrompt(v)),
+            WritePromptAnswer::Value(v) =>
+                return ResponseCodeAnswer::Value(ResponseCode::WritePrompt(v)),
             WritePromptAnswer::Refused(k) => line::worse_of(j2, k),
         };
         match CloseOk::from_checked(line) {
