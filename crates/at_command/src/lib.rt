@@ -36,10 +36,13 @@ pub mod cmgr;
 pub mod cntp;
 pub mod cops;
 pub mod cpsi;
+pub mod csq;
 pub mod generic_response;
 pub mod gsn;
 pub mod httptofs;
+pub mod request;
 mod unquoted;
+mod write;
 
 pub enum ResponseCode {
     Ok(GenericOk),
@@ -66,11 +69,15 @@ fn last_readers(line: &[u8], j: u8) -> ResponseCodeAnswer
     ensures { λ r. ⌜ says r ≡ firstOf j (lastReadings (now (line .entry))) ⌝ }
 {
     let j1 = match NetworkTime::from_checked(line) {
-        NetworkTimeAnswer::Value(v) => return ResponseCodeAnswer::Value(ResponseCode::NetworkTime(v)),
+        NetworkTimeAnswer::Value(v) => return ResponseCodeAnswer::Value(ResponseCode::NetworkTime(
+            v,
+        )),
         NetworkTimeAnswer::Refused(k) => line::worse_of(j, k),
     };
     let j2 = match DownloadInfo::from_checked(line) {
-        DownloadInfoAnswer::Value(v) => return ResponseCodeAnswer::Value(ResponseCode::DownloadInfo(v)),
+        DownloadInfoAnswer::Value(v) => return ResponseCodeAnswer::Value(ResponseCode::DownloadInfo(
+            v,
+        )),
         DownloadInfoAnswer::Refused(k) => line::worse_of(j1, k),
     };
     let j3 = match Imei::from_checked(line) {
@@ -78,7 +85,8 @@ fn last_readers(line: &[u8], j: u8) -> ResponseCodeAnswer
         ImeiAnswer::Refused(k) => line::worse_of(j2, k),
     };
     let j4 = match SmsMessageFormat::from_checked(line) {
-        SmsMessageFormatAnswer::Value(v) => return ResponseCodeAnswer::Value(ResponseCode::SmsMessageFormat(v)),
+        SmsMessageFormatAnswer::Value(v) =>
+            return ResponseCodeAnswer::Value(ResponseCode::SmsMessageFormat(v)),
         SmsMessageFormatAnswer::Refused(k) => line::worse_of(j3, k),
     };
     match SmsMessage::from_checked(line) {
@@ -119,7 +127,8 @@ impl ResponseCode {
             SimErrorAnswer::Refused(k) => line::worse_of(j1, k),
         };
         let j3 = match WritePrompt::from_checked(line) {
-            WritePromptAnswer::Value(v) => return ResponseCodeAnswer::Value(ResponseCode::WritePrompt(v)),
+            WritePromptAnswer::Value(v) =>
+                return ResponseCodeAnswer::Value(ResponseCode::WritePrompt(v)),
             WritePromptAnswer::Refused(k) => line::worse_of(j2, k),
         };
         match CloseOk::from_checked(line) {
