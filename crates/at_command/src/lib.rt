@@ -36,10 +36,13 @@ pub mod cmgr;
 pub mod cntp;
 pub mod cops;
 pub mod cpsi;
+pub mod csq;
 pub mod generic_response;
 pub mod gsn;
 pub mod httptofs;
+pub mod request;
 mod unquoted;
+mod write;
 
 pub enum ResponseCode {
     Ok(GenericOk),
