@@ -9,7 +9,7 @@ ghost use Rattle.text.specs.Code.{codeIn};
 ghost use Rattle.text.specs.Line.{checked};
 ghost use Rattle.at_command.specs.Cmgf.{messageFormats, cmgfText};
 ghost use Rattle.at_command.specs.Request.{Writes, getSmsMessageFormat, setSmsMessageFormat};
-ghost use Rattle.at_command.specs.says.Cmgf.{says, codeSays, formatNumber, formatSays};
+ghost use Rattle.at_command.specs.says.Cmgf.{says, codeSays, formatNumber};
 ghost use Rattle.at_command.specs.says.Request.{encodedSays};
 
 pub enum SmsMessageFormat {
