@@ -9,6 +9,8 @@ use Rattle.at_command.specs.Cmgr.{cmgrText}
 use Rattle.at_command.specs.Cntp.{NetTime, cntpText}
 use Rattle.at_command.specs.Cops.{Operator, copsText}
 use Rattle.at_command.specs.Cpsi.{System, cpsiText}
+use Rattle.at_command.specs.Kind.{Kind, genericOk, simError, writePrompt, systemInfo, operatorInfo, networkTime, downloadInfo, smsMessageFormat, smsMessage}
+use Rattle.at_command.specs.Kind as K
 use Rattle.at_command.specs.Generic.{Fault, okText, errorText, promptText, closeText}
 use Rattle.at_command.specs.Gsn.{imeiText}
 use Rattle.at_command.specs.Httptofs.{Download, httptofsText}
@@ -27,6 +29,21 @@ pub data Response : Type 0 where
   imei : Span → Response
   format : ℕ → Response
   message : Span → Response
+
+-- what kind of response it is
+abbrev pub kindOf : Response → Kind
+kindOf (ok x) = genericOk
+kindOf (error x) = simError
+kindOf (prompt x) = writePrompt
+kindOf (closeOk x) = K.closeOk
+kindOf (iccid x) = K.iccid
+kindOf (system x) = systemInfo
+kindOf (operator x) = operatorInfo
+kindOf (time x) = networkTime
+kindOf (download x) = downloadInfo
+kindOf (imei x) = K.imei
+kindOf (format x) = smsMessageFormat
+kindOf (message x) = smsMessage
 
 -- the trial uses the fallback texts "0" and "" for +COPS
 unfoldable pub lastReadings : List ℕ → List (Reading Response)

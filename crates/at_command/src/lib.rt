@@ -23,12 +23,14 @@ use gsn::Imei;
 use gsn::ImeiAnswer;
 use httptofs::DownloadInfo;
 use httptofs::DownloadInfoAnswer;
+use request::ResponseKind;
 use text::line;
 ghost use mathlib.Core.Path.{_≡_};
 ghost use Rattle.text.specs.Line.{checked};
 ghost use Rattle.text.specs.Reading.{firstOf};
-ghost use Rattle.at_command.specs.Response.{lastReadings, laterReadings, readings, responseText};
-ghost use Rattle.at_command.specs.says.Response.{says};
+ghost use Rattle.at_command.specs.Response.{kindOf, lastReadings, laterReadings, readings, responseText};
+ghost use Rattle.at_command.specs.says.Request.{kindSays};
+ghost use Rattle.at_command.specs.says.Response.{codeSays, says};
 
 pub mod ccid;
 pub mod cmgf;
@@ -145,5 +147,24 @@ impl ResponseCode {
             return ResponseCodeAnswer::Refused(k);
         }
         ResponseCode::from_checked(line)
+    }
+
+    pub fn kind(self) -> ResponseKind
+        ensures { λ r. ⌜ kindSays r ≡ kindOf (codeSays self) ⌝ }
+    {
+        match self {
+            ResponseCode::Ok(_) => ResponseKind::GenericOk,
+            ResponseCode::Error(_) => ResponseKind::SimError,
+            ResponseCode::WritePrompt(_) => ResponseKind::WritePrompt,
+            ResponseCode::CloseOk(_) => ResponseKind::CloseOk,
+            ResponseCode::Iccid(_) => ResponseKind::Iccid,
+            ResponseCode::SystemInfo(_) => ResponseKind::SystemInfo,
+            ResponseCode::OperatorInfo(_) => ResponseKind::OperatorInfo,
+            ResponseCode::NetworkTime(_) => ResponseKind::NetworkTime,
+            ResponseCode::DownloadInfo(_) => ResponseKind::DownloadInfo,
+            ResponseCode::Imei(_) => ResponseKind::Imei,
+            ResponseCode::SmsMessageFormat(_) => ResponseKind::SmsMessageFormat,
+            ResponseCode::SmsMessage(_) => ResponseKind::SmsMessage,
+        }
     }
 }
