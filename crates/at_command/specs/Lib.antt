@@ -7,5 +7,10 @@ pub mod Cpsi
 pub mod Generic
 pub mod Gsn
 pub mod Httptofs
+pub mod Kind
+pub mod Lay
+pub mod Piece
+pub mod Request
 pub mod Unquoted
+pub mod Response
 pub mod says

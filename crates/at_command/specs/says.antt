@@ -7,3 +7,5 @@ pub mod Cpsi
 pub mod Generic
 pub mod Gsn
 pub mod Httptofs
+pub mod Request
+pub mod Response

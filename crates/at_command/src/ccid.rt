@@ -1,14 +1,18 @@
 // AT+CCID: the number of the SIM card.
+use crate::request::Encoded;
+use crate::write;
 use text::bytes;
 use text::line;
 use text::number;
-use text::number::ParsedU64;
 use text::number::ParsedU8;
+use text::number::ParsedU64;
 use text::part;
 ghost use mathlib.Core.Path.{_≡_};
 ghost use Rattle.text.specs.Line.{checked};
 ghost use Rattle.at_command.specs.Ccid.{cardText, iccidText};
+ghost use Rattle.at_command.specs.Request.{Writes, showIccid};
 ghost use Rattle.at_command.specs.says.Ccid.{says};
+ghost use Rattle.at_command.specs.says.Request.{encodedSays};
 
 pub struct Iccid {
     pub country: u8,
@@ -65,5 +69,16 @@ impl Iccid {
             return IccidAnswer::Refused(k);
         }
         Iccid::from_checked(line)
+    }
+}
+
+// AT+CCID
+pub struct ShowIccid;
+
+impl ShowIccid {
+    pub fn encode(self, out: &mut [u8]) -> Encoded
+        ensures { λ r. ⌜ Writes showIccid (now (out .entry)) (encodedSays r) (now (out .exit)) ⌝ }
+    {
+        write::plain(b"AT+CCID\r", out)
     }
 }

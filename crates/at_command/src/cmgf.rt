@@ -1,4 +1,6 @@
 // AT+CMGF: the format of SMS messages.
+use crate::request::Encoded;
+use crate::write;
 use text::bytes;
 use text::line;
 use text::part;
@@ -6,7 +8,9 @@ ghost use mathlib.Core.Path.{_≡_};
 ghost use Rattle.text.specs.Code.{codeIn};
 ghost use Rattle.text.specs.Line.{checked};
 ghost use Rattle.at_command.specs.Cmgf.{messageFormats, cmgfText};
-ghost use Rattle.at_command.specs.says.Cmgf.{says, codeSays};
+ghost use Rattle.at_command.specs.Request.{Writes, getSmsMessageFormat, setSmsMessageFormat};
+ghost use Rattle.at_command.specs.says.Cmgf.{says, codeSays, formatNumber};
+ghost use Rattle.at_command.specs.says.Request.{encodedSays};
 
 pub enum SmsMessageFormat {
     Pdu,
@@ -56,5 +60,31 @@ impl SmsMessageFormat {
             return SmsMessageFormatAnswer::Refused(k);
         }
         SmsMessageFormat::from_checked(line)
+    }
+}
+
+// AT+CMGF?
+pub struct GetSmsMessageFormat;
+
+impl GetSmsMessageFormat {
+    pub fn encode(self, out: &mut [u8]) -> Encoded
+        ensures { λ r. ⌜ Writes getSmsMessageFormat (now (out .entry)) (encodedSays r) (now (out .exit)) ⌝ }
+    {
+        write::plain(b"AT+CMGF?\r", out)
+    }
+}
+
+// AT+CMGF=<format>
+pub struct SetSmsMessageFormat(pub SmsMessageFormat);
+
+impl SetSmsMessageFormat {
+    pub fn encode(self, out: &mut [u8]) -> Encoded
+        ensures { λ r. ⌜ Writes (setSmsMessageFormat (formatNumber (self .0))) (now (out .entry)) (encodedSays r) (now (out .exit)) ⌝ }
+    {
+        let format = self.0;
+        match format {
+            SmsMessageFormat::Pdu => write::plain(b"AT+CMGF=0\r", out),
+            SmsMessageFormat::Text => write::plain(b"AT+CMGF=1\r", out),
+        }
     }
 }

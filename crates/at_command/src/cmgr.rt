@@ -1,5 +1,7 @@
 // AT+CMGR: an SMS message.
+use crate::request::Encoded;
 use crate::unquoted;
+use crate::write;
 use text::bytes;
 use text::field;
 use text::line;
@@ -10,7 +12,9 @@ ghost use lib.ListN.{drop};
 ghost use Rattle.text.specs.Field.{fields};
 ghost use Rattle.text.specs.Line.{checked};
 ghost use Rattle.at_command.specs.Cmgr.{cmgrFields, cmgrText};
+ghost use Rattle.at_command.specs.Request.{Writes, readSms};
 ghost use Rattle.at_command.specs.says.Cmgr.{says};
+ghost use Rattle.at_command.specs.says.Request.{encodedSays};
 
 // The sender's place in the line. The message's text is empty, as in the Rust.
 pub struct SmsMessage {
@@ -56,5 +60,24 @@ impl SmsMessage {
             return SmsMessageAnswer::Refused(k);
         }
         SmsMessage::from_checked(line)
+    }
+}
+
+// AT+CMGR=<index>
+pub struct ReadSms {
+    pub index: u8,
+}
+
+impl ReadSms {
+    pub fn encode(self, out: &mut [u8]) -> Encoded
+        ensures { λ r. ⌜ Writes (readSms (self .index)) (now (out .entry)) (encodedSays r) (now (out .exit)) ⌝ }
+    {
+        let index = self.index as u16;
+        if out.len() < 9 + write::decimal_size(index) {
+            return Encoded::Refused(7);
+        }
+        let at = write::lay(b"AT+CMGR=", 0, out);
+        let at = write::lay_decimal(index, at, out);
+        Encoded::Size(write::lay(b"\r", at, out))
     }
 }

@@ -1,14 +1,21 @@
 // AT+CNTP: the time of the network.
+use crate::request::Encoded;
+use crate::write;
 use text::bytes;
 use text::line;
 use text::part;
 use text::part::Place;
 ghost use mathlib.Core.Path.{_≡_};
-ghost use lib.ListN.{drop};
+ghost use Prim.Native.Nat.{_+_, _≤_};
+ghost use lib.ListN.{drop, length};
 ghost use Rattle.text.specs.Code.{codeIn};
 ghost use Rattle.text.specs.Line.{checked};
 ghost use Rattle.at_command.specs.Cntp.{ntpCodes, ntpErrors, cntpRest, cntpText};
+ghost use Rattle.at_command.specs.Lay.{Lays};
+ghost use Rattle.at_command.specs.Piece.{quoted, decimal};
+ghost use Rattle.at_command.specs.Request.{Writes, commandOf, synchronizeNetworkTime, execute};
 ghost use Rattle.at_command.specs.says.Cntp.{says, codeSays};
+ghost use Rattle.at_command.specs.says.Request.{encodedSays};
 
 pub enum SyncNtpStatusCode {
     Success,
@@ -115,5 +122,54 @@ impl NetworkTime {
             return NetworkTimeAnswer::Refused(k);
         }
         NetworkTime::from_checked(line)
+    }
+}
+
+// AT+CNTP="<ntp_server>",<timezone>,<cid>
+pub struct SynchronizeNetworkTime {
+    pub timezone: u16,
+    pub cid: u8,
+}
+
+impl SynchronizeNetworkTime {
+    pub fn encode(self, ntp_server: &[u8], out: &mut [u8]) -> Encoded
+        ensures { λ r. ⌜ Writes (synchronizeNetworkTime (now («ntp_server» .entry)) (self .timezone) (self .cid)) (now (out .entry)) (encodedSays r) (now (out .exit)) ⌝ }
+    {
+        let refusal = write::refusal(ntp_server, 64, b"", 0);
+        if 0 < refusal {
+            return Encoded::Refused(refusal);
+        }
+        let timezone = self.timezone;
+        let cid = self.cid as u16;
+        let numbers = write::decimal_size(timezone) + write::decimal_size(cid);
+        if out.len() < 11 + write::quoted_size(ntp_server) + numbers {
+            return Encoded::Refused(7);
+        }
+        Encoded::Size(lay_sync(ntp_server, timezone, cid, out))
+    }
+}
+
+// Lays the command where there is room for it.
+fn lay_sync(ntp_server: &[u8], timezone: u16, cid: u16, out: &mut [u8]) -> usize
+    requires { ⌜ 11 + length (quoted (now «ntp_server»)) + length (decimal timezone) + length (decimal cid) ≤ length (now out) ⌝ }
+    ensures { λ r. ⌜ Lays (commandOf (synchronizeNetworkTime (now («ntp_server» .entry)) timezone cid)) 0 (now (out .entry)) r (now (out .exit)) ⌝ }
+{
+    let at = write::lay(b"AT+CNTP=", 0, out);
+    let at = write::lay_quoted(ntp_server, at, out);
+    let at = write::lay(b",", at, out);
+    let at = write::lay_decimal(timezone, at, out);
+    let at = write::lay(b",", at, out);
+    let at = write::lay_decimal(cid, at, out);
+    write::lay(b"\r", at, out)
+}
+
+// AT+CNTP
+pub struct Execute;
+
+impl Execute {
+    pub fn encode(self, out: &mut [u8]) -> Encoded
+        ensures { λ r. ⌜ Writes execute (now (out .entry)) (encodedSays r) (now (out .exit)) ⌝ }
+    {
+        write::plain(b"AT+CNTP\r", out)
     }
 }

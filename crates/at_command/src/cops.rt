@@ -1,17 +1,23 @@
 // AT+COPS: the operator.
+use crate::request::Encoded;
 use crate::unquoted;
+use crate::write;
 use text::bytes;
 use text::field;
 use text::line;
 use text::part;
 use text::part::Place;
 ghost use mathlib.Core.Path.{_≡_};
-ghost use lib.ListN.{drop};
+ghost use Prim.Native.Nat.{_+_, _≤_};
+ghost use lib.ListN.{drop, length};
 ghost use Rattle.text.specs.Code.{codeIn};
 ghost use Rattle.text.specs.Field.{fields};
 ghost use Rattle.text.specs.Line.{checked};
 ghost use Rattle.at_command.specs.Cops.{operatorModes, operatorFormats, FieldOr, nameOf, copsFields, copsText};
+ghost use Rattle.at_command.specs.Lay.{Lays};
+ghost use Rattle.at_command.specs.Request.{Writes, commandOf, getOperatorInfo, setManualOperator, setAutomaticOperator};
 ghost use Rattle.at_command.specs.says.Cops.{says, modeSays, formatSays, nameSays};
+ghost use Rattle.at_command.specs.says.Request.{encodedSays};
 
 pub enum OperatorMode {
     Automatic,
@@ -129,7 +135,11 @@ fn operator_info<'a>(line: &'a [u8], format: &'a [u8], name: &'a [u8]) -> Operat
 }
 
 impl OperatorInfo {
-    pub(crate) fn from_checked<'a>(line: &'a [u8], format: &'a [u8], name: &'a [u8]) -> OperatorInfoAnswer
+    pub(crate) fn from_checked<'a>(
+        line: &'a [u8],
+        format: &'a [u8],
+        name: &'a [u8],
+    ) -> OperatorInfoAnswer
         ensures { λ r. ⌜ says r ≡ copsText (now (format .entry)) (now (name .entry)) (now (line .entry)) ⌝ }
     {
         if !bytes::starts_with(line, b"+COPS: ") {
@@ -146,5 +156,56 @@ impl OperatorInfo {
             return OperatorInfoAnswer::Refused(k);
         }
         OperatorInfo::from_checked(line, format, name)
+    }
+}
+
+// AT+COPS?
+pub struct GetOperatorInfo;
+
+impl GetOperatorInfo {
+    pub fn encode(self, out: &mut [u8]) -> Encoded
+        ensures { λ r. ⌜ Writes getOperatorInfo (now (out .entry)) (encodedSays r) (now (out .exit)) ⌝ }
+    {
+        write::plain(b"AT+COPS?\r", out)
+    }
+}
+
+// AT+COPS=1,2,"<plmn>": a manual choice, by the number of the operator.
+pub struct SetManualOperator;
+
+impl SetManualOperator {
+    pub fn encode(self, plmn: &[u8], out: &mut [u8]) -> Encoded
+        ensures { λ r. ⌜ Writes (setManualOperator (now (plmn .entry))) (now (out .entry)) (encodedSays r) (now (out .exit)) ⌝ }
+    {
+        let refusal = write::refusal(plmn, 6, b"", 0);
+        if 0 < refusal {
+            return Encoded::Refused(refusal);
+        }
+        if out.len() < 15 + plmn.len() {
+            return Encoded::Refused(7);
+        }
+        Encoded::Size(lay_manual(plmn, out))
+    }
+}
+
+// Lays the command where there is room for it.
+fn lay_manual(plmn: &[u8], out: &mut [u8]) -> usize
+    requires { ⌜ 15 + length (now plmn) ≤ length (now out) ⌝ }
+    ensures { λ r. ⌜ Lays (commandOf (setManualOperator (now (plmn .entry)))) 0 (now (out .entry)) r (now (out .exit)) ⌝ }
+{
+    let at = write::lay(b"AT+COPS=1,2,\"", 0, out);
+    let at = write::lay(plmn, at, out);
+    let at = write::lay(b"\"", at, out);
+    write::lay(b"\r", at, out)
+}
+
+// AT+COPS=0: the modem chooses.
+pub struct SetAutomaticOperator;
+
+impl SetAutomaticOperator {
+    pub fn encode(self, out: &mut [u8]) -> Encoded
+        ensures { λ r. ⌜ Writes setAutomaticOperator (now (out .entry)) (encodedSays r) (now (out .exit)) ⌝ }
+    {
+        write::plain(b"AT+COPS=0\r", out)
     }
 }

@@ -1,4 +1,6 @@
 // AT+CPSI: the system mode and the operation mode.
+use crate::request::Encoded;
+use crate::write;
 use text::bytes;
 use text::field;
 use text::line;
@@ -8,7 +10,9 @@ ghost use Rattle.text.specs.Code.{codeIn};
 ghost use Rattle.text.specs.Field.{fields};
 ghost use Rattle.text.specs.Line.{checked};
 ghost use Rattle.at_command.specs.Cpsi.{systemModes, operationModes, cpsiFields, cpsiText};
+ghost use Rattle.at_command.specs.Request.{Writes, getSystemInfo};
 ghost use Rattle.at_command.specs.says.Cpsi.{says, systemSays, operationSays};
+ghost use Rattle.at_command.specs.says.Request.{encodedSays};
 
 pub enum SystemMode {
     NoService,
@@ -120,5 +124,16 @@ impl SystemInfo {
             return SystemInfoAnswer::Refused(k);
         }
         SystemInfo::from_checked(line)
+    }
+}
+
+// AT+CPSI?
+pub struct GetSystemInfo;
+
+impl GetSystemInfo {
+    pub fn encode(self, out: &mut [u8]) -> Encoded
+        ensures { λ r. ⌜ Writes getSystemInfo (now (out .entry)) (encodedSays r) (now (out .exit)) ⌝ }
+    {
+        write::plain(b"AT+CPSI?\r", out)
     }
 }

@@ -134,7 +134,8 @@ impl CloseOk {
         if !bytes::ends_with(line, b", CLOSE OK") {
             return CloseOkAnswer::Refused(3);
         }
-        let ParsedU64::Is(connection) = number::parse_u64(part::part(line, 0, line.len() - 10)) else {
+        let ParsedU64::Is(connection) = number::parse_u64(part::part(line, 0, line.len() - 10))
+        else {
             return CloseOkAnswer::Refused(3);
         };
         CloseOkAnswer::Value(CloseOk { connection })

@@ -1,16 +1,20 @@
 // AT+GSN: the IMEI.
+use crate::request::Encoded;
+use crate::write;
 use text::bytes;
 use text::line;
 use text::part;
 use text::part::Place;
-ghost use mathlib.Core.Path.{_≡_};
 ghost use mathlib.Core.Bool.{true};
+ghost use mathlib.Core.Path.{_≡_};
 ghost use Prim.Native.Nat.{_≤_};
 ghost use lib.ListN.{length};
 ghost use Rattle.text.specs.Bytes.{allDigits};
 ghost use Rattle.text.specs.Line.{checked};
 ghost use Rattle.at_command.specs.Gsn.{doubled, checkDigit, imeiText};
+ghost use Rattle.at_command.specs.Request.{Writes, getImei};
 ghost use Rattle.at_command.specs.says.Gsn.{says};
+ghost use Rattle.at_command.specs.says.Request.{encodedSays};
 
 // The IMEI's place, which is the whole line.
 pub struct Imei {
@@ -84,5 +88,16 @@ impl Imei {
             return ImeiAnswer::Refused(k);
         }
         Imei::from_checked(line)
+    }
+}
+
+// AT+GSN
+pub struct GetImei;
+
+impl GetImei {
+    pub fn encode(self, out: &mut [u8]) -> Encoded
+        ensures { λ r. ⌜ Writes getImei (now (out .entry)) (encodedSays r) (now (out .exit)) ⌝ }
+    {
+        write::plain(b"AT+GSN\r", out)
     }
 }

@@ -1,16 +1,24 @@
 // AT+HTTPTOFS: a download to the modem's file system.
+use crate::request::Encoded;
+use crate::write;
 use text::bytes;
 use text::line;
 use text::number;
 use text::number::ParsedU64;
 use text::part;
 ghost use mathlib.Core.Path.{_≡_};
+ghost use Prim.Native.Nat.{_+_, _≤_};
+ghost use lib.ListN.{length};
 ghost use Rattle.text.specs.Code.{codeIn};
 ghost use Rattle.text.specs.Line.{checked};
 ghost use Rattle.text.specs.Number.{unsigned};
 ghost use Rattle.text.specs.Part.{after};
 ghost use Rattle.at_command.specs.Httptofs.{httpCodes, errorCodes, modemCodes, orZero, downloadOf, httptofsText};
+ghost use Rattle.at_command.specs.Lay.{Lays};
+ghost use Rattle.at_command.specs.Piece.{quoted};
+ghost use Rattle.at_command.specs.Request.{Writes, commandOf, downloadToFileSystem};
 ghost use Rattle.at_command.specs.says.Httptofs.{says, statusNumber, infoSays, successSays, succeeded};
+ghost use Rattle.at_command.specs.says.Request.{encodedSays};
 
 pub enum StatusCode {
     Continue,
@@ -172,4 +180,34 @@ impl DownloadInfo {
         }
         DownloadInfo::from_checked(line)
     }
+}
+
+// AT+HTTPTOFS="<url>","<file_path>"
+pub struct DownloadToFileSystem;
+
+impl DownloadToFileSystem {
+    pub fn encode(self, url: &[u8], file_path: &[u8], out: &mut [u8]) -> Encoded
+        ensures { λ r. ⌜ Writes (downloadToFileSystem (now (url .entry)) (now («file_path» .entry))) (now (out .entry)) (encodedSays r) (now (out .exit)) ⌝ }
+    {
+        let refusal = write::refusal(url, 64, file_path, 32);
+        if 0 < refusal {
+            return Encoded::Refused(refusal);
+        }
+        if out.len() < 14 + write::quoted_size(url) + write::quoted_size(file_path) {
+            return Encoded::Refused(7);
+        }
+        Encoded::Size(lay_download(url, file_path, out))
+    }
+}
+
+// Lays the command where there is room for it.
+fn lay_download(url: &[u8], file_path: &[u8], out: &mut [u8]) -> usize
+    requires { ⌜ 14 + length (quoted (now url)) + length (quoted (now «file_path»)) ≤ length (now out) ⌝ }
+    ensures { λ r. ⌜ Lays (commandOf (downloadToFileSystem (now (url .entry)) (now («file_path» .entry)))) 0 (now (out .entry)) r (now (out .exit)) ⌝ }
+{
+    let at = write::lay(b"AT+HTTPTOFS=", 0, out);
+    let at = write::lay_quoted(url, at, out);
+    let at = write::lay(b",", at, out);
+    let at = write::lay_quoted(file_path, at, out);
+    write::lay(b"\r", at, out)
 }

@@ -8,7 +8,7 @@ use native.Mathlib.Omega.{arith}
 use lib.ListN.{length, getD, drop, length-drop}
 use lib.Dec.{eqb, ltb}
 use borrow.Author.Tests.{eq-eqb, ne-eqb, lt-leb, le-leb}
-use Rattle.text.specs.Bytes.{startsWith, same, endsWith, indexOf, countOf, has, indexOfText, hasText, allDigits}
+use Rattle.text.specs.Bytes.{startsWith, same, endsWith, indexOf, countOf, has, indexOfText, hasText, allWithin}
 use Rattle.text.proofs.Rest.{at-next, at-end}
 
 -- `find`
@@ -47,19 +47,19 @@ module _ (s : List ℕ) (b i n : ℕ) (inv : n + countOf b (drop i s) ≡ countO
   pub count-end : length s ≤ i → n ≡ countOf b s
   count-end h = let z : countOf b (drop i s) ≡ 0 = rw (at-end s i h) in omega arith
 
--- `all_digits`
-module _ (s : List ℕ) (i : ℕ) (inv : allDigits s ≡ allDigits (drop i s)) where
-  pub digits-low : i < length s → getD s i 0 < 48 → false ≡ allDigits s
-  digits-low h k = rw (inv, at-next s i h, lt-leb _ _ k)
+-- `all_within`
+module _ (s : List ℕ) (lo hi i : ℕ) (inv : allWithin lo hi s ≡ allWithin lo hi (drop i s)) where
+  pub within-low : i < length s → getD s i 0 < lo → false ≡ allWithin lo hi s
+  within-low h k = rw (inv, at-next s i h, lt-leb _ _ k)
 
-  pub digits-high : i < length s → 48 ≤ getD s i 0 → 57 < getD s i 0 → false ≡ allDigits s
-  digits-high h l k = rw (inv, at-next s i h, le-leb _ _ l, lt-leb _ _ k)
+  pub within-high : i < length s → lo ≤ getD s i 0 → hi < getD s i 0 → false ≡ allWithin lo hi s
+  within-high h l k = rw (inv, at-next s i h, le-leb _ _ l, lt-leb _ _ k)
 
-  pub digits-more : i < length s → 48 ≤ getD s i 0 → getD s i 0 ≤ 57 → allDigits s ≡ allDigits (drop (i + 1) s)
-  digits-more h l k = rw (inv, at-next s i h, le-leb _ _ l, le-leb _ _ k)
+  pub within-more : i < length s → lo ≤ getD s i 0 → getD s i 0 ≤ hi → allWithin lo hi s ≡ allWithin lo hi (drop (i + 1) s)
+  within-more h l k = rw (inv, at-next s i h, le-leb _ _ l, le-leb _ _ k)
 
-  pub digits-end : length s ≤ i → true ≡ allDigits s
-  digits-end h = rw (inv, at-end s i h)
+  pub within-end : length s ≤ i → true ≡ allWithin lo hi s
+  within-end h = rw (inv, at-end s i h)
 
 -- `stands_at`: the text p at `at`
 pub starts-long : (p t : List ℕ) → length t < length p → false ≡ startsWith p t

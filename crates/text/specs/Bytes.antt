@@ -54,11 +54,11 @@ indexOfText p (x ∷ s) = cond (startsWith p (x ∷ s)) 0 (suc (indexOfText p s)
 unfoldable pub hasText : List ℕ → List ℕ → Bool
 hasText p s = ltb (indexOfText p s) (length s)
 
--- '0' to '9'
-abbrev pub digit : ℕ → Bool
-digit x = within 48 57 x
+-- every byte lies from lo to hi, as those of an empty line do
+abbrev pub allWithin : ℕ → ℕ → List ℕ → Bool
+allWithin lo hi [] = true
+allWithin lo hi (x ∷ s) = within lo hi x && allWithin lo hi s
 
--- all bytes are ASCII digits, as those of an empty line are
+-- all bytes are ASCII digits: '0' to '9'
 abbrev pub allDigits : List ℕ → Bool
-allDigits [] = true
-allDigits (x ∷ s) = digit x && allDigits s
+allDigits s = allWithin 48 57 s

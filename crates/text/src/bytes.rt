@@ -2,7 +2,7 @@
 ghost use mathlib.Core.Path.{_≡_};
 ghost use Prim.Native.Nat.{_+_, _≤_};
 ghost use lib.ListN.{length, drop};
-ghost use Rattle.text.specs.Bytes.{same, startsWith, endsWith, indexOf, countOf, has, allDigits, indexOfText, hasText};
+ghost use Rattle.text.specs.Bytes.{same, startsWith, endsWith, indexOf, countOf, has, allWithin, allDigits, indexOfText, hasText};
 
 // The index of the first b of s at or after `from`: where there is none, the length, or `from` where that is larger.
 pub fn find(s: &[u8], from: usize, b: u8) -> usize
@@ -108,20 +108,27 @@ pub fn has_text(s: &[u8], p: &[u8]) -> bool
     find_text(s, p) < s.len()
 }
 
-// Whether all bytes of s are ASCII digits.
-pub fn all_digits(s: &[u8]) -> bool
-    ensures { λ r. ⌜ r ≡ allDigits (now (s .entry)) ⌝ }
+// Whether all bytes of s lie from lo to hi.
+pub fn all_within(s: &[u8], lo: u8, hi: u8) -> bool
+    ensures { λ r. ⌜ r ≡ allWithin lo hi (now (s .entry)) ⌝ }
 {
     let mut i = 0;
     while i < s.len() {
         let x = s[i];
-        if x < 48 {
+        if x < lo {
             return false;
         }
-        if 57 < x {
+        if hi < x {
             return false;
         }
         i += 1;
     }
     true
+}
+
+// Whether all bytes of s are ASCII digits.
+pub fn all_digits(s: &[u8]) -> bool
+    ensures { λ r. ⌜ r ≡ allDigits (now (s .entry)) ⌝ }
+{
+    all_within(s, 48, 57)
 }

@@ -8,7 +8,7 @@ use native.Mathlib.Omega.{arith}
 use lib.Dec.{eqb, leb}
 use lib.ListN.{length, getD, take, drop, length-take}
 use borrow.Author.Tests.{leb-true, eq-eqb, ne-eqb, not-false}
-use Rattle.text.specs.Bytes.{digit, allDigits, within}
+use Rattle.text.specs.Bytes.{within, allDigits}
 use Rattle.text.proofs.Rest.{at-next, at-end}
 use Rattle.text.specs.Part.{Span, spanOf, partOf}
 use Rattle.text.specs.Reading.{Reading, read, refused, only}
@@ -25,17 +25,17 @@ and-r false b h = absurd (let z : _≡_ {A = ℕ} 0 1 = cc in omega arith)
 
 -- a byte of digits is a digit
 module _ (s : List ℕ) (i : ℕ) (inv : allDigits (drop i s) ≡ true) (h : i < length s) where
-  split : digit (getD s i 0) && allDigits (drop (i + 1) s) ≡ true
+  split : within 48 57 (getD s i 0) && allDigits (drop (i + 1) s) ≡ true
   split = ap allDigits (sym (at-next s i h)) ∙ inv
 
   pub is-low : 48 ≤ getD s i 0
-  is-low = leb-true 48 (getD s i 0) (and-l (leb 48 (getD s i 0)) (leb (getD s i 0) 57) (and-l (digit (getD s i 0)) _ split))
+  is-low = leb-true 48 (getD s i 0) (and-l (leb 48 (getD s i 0)) (leb (getD s i 0) 57) (and-l (within 48 57 (getD s i 0)) _ split))
 
   pub is-high : getD s i 0 ≤ 57
-  is-high = leb-true (getD s i 0) 57 (and-r (leb 48 (getD s i 0)) (leb (getD s i 0) 57) (and-l (digit (getD s i 0)) _ split))
+  is-high = leb-true (getD s i 0) 57 (and-r (leb 48 (getD s i 0)) (leb (getD s i 0) 57) (and-l (within 48 57 (getD s i 0)) _ split))
 
   pub digits-on : allDigits (drop (i + 1) s) ≡ true
-  digits-on = and-r (digit (getD s i 0)) _ split
+  digits-on = and-r (within 48 57 (getD s i 0)) _ split
 
 -- `check_digit`
 module _ (s : List ℕ) (i sum : ℕ) where
@@ -65,12 +65,12 @@ doubled-le d h = omega arith
 front : (n : ℕ) (s : List ℕ) → allDigits s ≡ true → allDigits (take n s) ≡ true
 front zero s h = refl
 front (suc n) [] h = refl
-front (suc n) (x ∷ s) h = rw (and-l (digit x) (allDigits s) h) (front n s (and-r (digit x) (allDigits s) h))
+front (suc n) (x ∷ s) h = rw (and-l (within 48 57 x) (allDigits s) h) (front n s (and-r (within 48 57 x) (allDigits s) h))
 
 back : (n : ℕ) (s : List ℕ) → allDigits s ≡ true → allDigits (drop n s) ≡ true
 back zero s h = h
 back (suc n) [] h = refl
-back (suc n) (x ∷ s) h = back n s (and-r (digit x) (allDigits s) h)
+back (suc n) (x ∷ s) h = back n s (and-r (within 48 57 x) (allDigits s) h)
 
 module _ (s : List ℕ) (x : Bool) (all : x ≡ allDigits s) (yes : not x ≡ false) where
   digits : allDigits s ≡ true

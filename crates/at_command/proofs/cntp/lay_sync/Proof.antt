@@ -1,0 +1,61 @@
+use borrow.Author.Needs.{needs}
+use Rattle.at_command.proofs.cntp.lay_sync.Statement.{statement}
+use Rattle.at_command.proofs.cntp.lay_sync.Tie as tie
+use Rattle.at_command.proofs.Laying.{lay-on}
+
+slice-aggregate-lay : tie.Need-slice-aggregate-lay
+slice-aggregate-lay c = search needs
+
+lay-requires : tie.Need-lay-requires
+lay-requires c κs = search needs
+
+lay-quoted-requires : tie.Need-lay-quoted-requires
+lay-quoted-requires c κs = search needs
+
+slice-aggregate-lay-2 : tie.Need-slice-aggregate-lay-2
+slice-aggregate-lay-2 c = search needs
+
+lay-requires-2 : tie.Need-lay-requires-2
+lay-requires-2 c κs = search needs
+
+lay-decimal-requires : tie.Need-lay-decimal-requires
+lay-decimal-requires c κs = search needs
+
+slice-aggregate-lay-3 : tie.Need-slice-aggregate-lay-3
+slice-aggregate-lay-3 c = search needs
+
+lay-requires-3 : tie.Need-lay-requires-3
+lay-requires-3 c κs = search needs
+
+lay-decimal-requires-2 : tie.Need-lay-decimal-requires-2
+lay-decimal-requires-2 c κs = search needs
+
+slice-aggregate-lay-4 : tie.Need-slice-aggregate-lay-4
+slice-aggregate-lay-4 c = search needs
+
+lay-requires-4 : tie.Need-lay-requires-4
+lay-requires-4 c κs = search needs
+
+same-length : tie.Need-same-length
+same-length c = search needs
+
+returns : tie.Need-returns
+returns c = lay-on (lay-on (lay-on (lay-on (lay-on (lay-on (c .before .before .before .before .before .before .before .before .before .before .before .before .before .before .before .before .before .before .before .before .before .before .before .before .before .before .before .before .before .lay .ensures) (c .before .before .before .before .before .before .before .before .before .before .before .before .before .before .before .before .before .before .before .before .before .before .before .before .before .lay-quoted .ensures)) (c .before .before .before .before .before .before .before .before .before .before .before .before .before .before .before .before .before .before .before .before .lay2 .ensures)) (c .before .before .before .before .before .before .before .before .before .before .before .before .before .before .before .before .lay-decimal .ensures)) (c .before .before .before .before .before .before .before .before .before .before .before .lay3 .ensures)) (c .before .before .before .before .before .before .before .lay-decimal2 .ensures)) (c .before .before .lay4 .ensures)
+
+pub lay-sync-spec : {M : Type 1} → statement M
+lay-sync-spec =
+    tie.close
+    (tie.spec
+    slice-aggregate-lay
+    lay-requires
+    lay-quoted-requires
+    slice-aggregate-lay-2
+    lay-requires-2
+    lay-decimal-requires
+    slice-aggregate-lay-3
+    lay-requires-3
+    lay-decimal-requires-2
+    slice-aggregate-lay-4
+    lay-requires-4
+    same-length
+    returns)

@@ -1,0 +1,134 @@
+// The requests under one name: what each writes, and the answers that it awaits.
+use crate::ccid::ShowIccid;
+use crate::cmgf::GetSmsMessageFormat;
+use crate::cmgf::SetSmsMessageFormat;
+use crate::cmgf::SmsMessageFormat;
+use crate::cmgr::ReadSms;
+use crate::cntp::Execute;
+use crate::cntp::SynchronizeNetworkTime;
+use crate::cops::GetOperatorInfo;
+use crate::cops::SetAutomaticOperator;
+use crate::cops::SetManualOperator;
+use crate::cpsi::GetSystemInfo;
+use crate::csq::GetSignalQuality;
+use crate::gsn::GetImei;
+use crate::httptofs::DownloadToFileSystem;
+ghost use mathlib.Core.Path.{_≡_};
+ghost use Rattle.at_command.specs.Request.{Writes};
+ghost use Rattle.at_command.specs.says.Request.{encodedSays, asked, awaitsSays, awaitedBy};
+
+// The size of the command that was written, or the refusal: 5, 6 or 7.
+pub enum Encoded {
+    Size(usize),
+    Refused(u8),
+}
+
+// The kinds of response, in the order of trial.
+pub enum ResponseKind {
+    GenericOk,
+    SimError,
+    WritePrompt,
+    CloseOk,
+    Iccid,
+    SignalQuality,
+    SystemInfo,
+    OperatorInfo,
+    NetworkTime,
+    DownloadInfo,
+    Imei,
+    SmsMessageFormat,
+    SmsMessage,
+}
+
+// The answers that a request awaits, in order.
+pub enum Awaits {
+    One(ResponseKind),
+    Two(ResponseKind, ResponseKind),
+}
+
+// A request without its texts, which are lent beside it.
+pub enum Request {
+    GetSignalQuality,
+    ShowIccid,
+    GetImei,
+    GetOperatorInfo,
+    SetManualOperator,
+    SetAutomaticOperator,
+    GetSystemInfo,
+    SynchronizeNetworkTime { timezone: u16, cid: u8 },
+    Execute,
+    DownloadToFileSystem,
+    GetSmsMessageFormat,
+    SetSmsMessageFormat(SmsMessageFormat),
+    ReadSms { index: u8 },
+}
+
+impl Request {
+    pub fn awaits(self) -> Awaits
+        ensures { λ r. ⌜ awaitsSays r ≡ awaitedBy self ⌝ }
+    {
+        match self {
+            Request::GetSignalQuality => Awaits::Two(
+                ResponseKind::SignalQuality,
+                ResponseKind::GenericOk,
+            ),
+            Request::ShowIccid => Awaits::Two(ResponseKind::Iccid, ResponseKind::GenericOk),
+            Request::GetImei => Awaits::Two(ResponseKind::Imei, ResponseKind::GenericOk),
+            Request::GetOperatorInfo => Awaits::Two(
+                ResponseKind::OperatorInfo,
+                ResponseKind::GenericOk,
+            ),
+            Request::SetManualOperator => Awaits::One(ResponseKind::GenericOk),
+            Request::SetAutomaticOperator => Awaits::One(ResponseKind::GenericOk),
+            Request::GetSystemInfo => Awaits::Two(
+                ResponseKind::SystemInfo,
+                ResponseKind::GenericOk,
+            ),
+            Request::SynchronizeNetworkTime {
+                timezone: _,
+                cid: _,
+            } => Awaits::One(ResponseKind::GenericOk),
+            Request::Execute => Awaits::Two(ResponseKind::GenericOk, ResponseKind::NetworkTime),
+            Request::DownloadToFileSystem => Awaits::Two(
+                ResponseKind::GenericOk,
+                ResponseKind::DownloadInfo,
+            ),
+            Request::GetSmsMessageFormat => Awaits::Two(
+                ResponseKind::SmsMessageFormat,
+                ResponseKind::GenericOk,
+            ),
+            Request::SetSmsMessageFormat(_) => Awaits::One(ResponseKind::GenericOk),
+            Request::ReadSms { index: _ } => Awaits::Two(
+                ResponseKind::SmsMessage,
+                ResponseKind::GenericOk,
+            ),
+        }
+    }
+
+    // SetManualOperator's plmn, SynchronizeNetworkTime's ntp_server and DownloadToFileSystem's url are `first`, and the last one's
+    // file_path is `second`; the other requests have no texts.
+    pub fn encode(self, first: &[u8], second: &[u8], out: &mut [u8]) -> Encoded
+        ensures { λ r. ⌜ Writes (asked self (now (first .entry)) (now (second .entry))) (now (out .entry)) (encodedSays r) (now (out .exit)) ⌝ }
+    {
+        match self {
+            Request::GetSignalQuality => GetSignalQuality.encode(out),
+            Request::ShowIccid => ShowIccid.encode(out),
+            Request::GetImei => GetImei.encode(out),
+            Request::GetOperatorInfo => GetOperatorInfo.encode(out),
+            Request::SetManualOperator => SetManualOperator.encode(first, out),
+            Request::SetAutomaticOperator => SetAutomaticOperator.encode(out),
+            Request::GetSystemInfo => GetSystemInfo.encode(out),
+            Request::SynchronizeNetworkTime { timezone, cid } => {
+                SynchronizeNetworkTime {
+                    timezone: timezone,
+                    cid: cid,
+                }.encode(first, out)
+            }
+            Request::Execute => Execute.encode(out),
+            Request::DownloadToFileSystem => DownloadToFileSystem.encode(first, second, out),
+            Request::GetSmsMessageFormat => GetSmsMessageFormat.encode(out),
+            Request::SetSmsMessageFormat(format) => SetSmsMessageFormat(format).encode(out),
+            Request::ReadSms { index } => ReadSms { index: index }.encode(out),
+        }
+    }
+}
