@@ -1,3 +1,4 @@
+pub mod Bits
 pub mod Grammar
 pub mod Nearest
 pub mod Numeral

@@ -12,6 +12,8 @@ ghost use Rattle.numeral.specs.Nearest.{Answers};
 ghost use Rattle.numeral.specs.Place.{Placed};
 ghost use Rattle.numeral.specs.Told.{told, toldDecimal};
 
+pub mod bits;
+
 const TENS: [u64; 16] = [
     1,
     10,

@@ -56,10 +56,12 @@ fn print_u64(s: &[u8]) {
     }
 }
 
-// The magnitude of a number below zero.
-fn negated(n: i32) -> u64 {
-    let wide = n as i64;
-    (0 - wide) as u64
+// A number without its sign. One more than -1 - n, which the type holds for every n below zero.
+fn magnitude(n: i32) -> u64 {
+    if n < 0 {
+        return (-1 - n) as u64 + 1;
+    }
+    n as u64
 }
 
 fn print_i32(s: &[u8]) {
@@ -67,10 +69,8 @@ fn print_i32(s: &[u8]) {
         ParsedI32::Is(n) => {
             if n < 0 {
                 print(b"-");
-                print_number(negated(n));
-                return;
             }
-            print_number(n as u64);
+            print_number(magnitude(n));
         }
         ParsedI32::Not => none(),
     }
@@ -79,7 +79,7 @@ fn print_i32(s: &[u8]) {
 fn print_f32(s: &[u8]) {
     match numeral::read(s) {
         Numeral::Value(x) => {
-            io::print_hex(STDOUT_FILENO, f32::to_bits(x) as u64, 8);
+            io::print_hex(STDOUT_FILENO, numeral::bits::bits_of(x) as u64, 8);
         }
         Numeral::Refused => none(),
     }

@@ -1,86 +1,70 @@
+-- Both indices stay within their slices.
 use Rattle.vectors.proofs.decode.Statement.{statement}
 use Rattle.vectors.proofs.decode.Tie as tie
-use Rattle.vectors.proofs.decode.Reads as reads
-use Rattle.vectors.proofs.decode.Lts as lts
-use Rattle.vectors.proofs.nibble.Reads as nibble-reads
+use mathlib.Core.Path.{_≡_}
+use Prim.Native.Nat.{_≤_, _-_}
+use lib.ListN.{length, length-set}
+use borrow.Author.Needs.{needs}
 
 abbrev Inv-loop : tie.InvT-loop
-Inv-loop hex out₀ n₀ i₀ out n i = ?
+Inv-loop hex out₀ n₀ i₀ out n i = (n ≤ length out) × (i ≤ length hex) × (length out ≡ length out₀)
 
 abbrev μ-loop : tie.MeasureT-loop
-μ-loop hex out₀ n₀ i₀ out n i = ?
+μ-loop hex out₀ n₀ i₀ out n i = length out₀ - n
 
--- src/main.rt:144:5
 loop-holds : tie.Need-loop-holds Inv-loop μ-loop
-loop-holds c = ?
+loop-holds c = search needs
 
--- src/main.rt:145:12
 sub-if1 : tie.Need-sub-if1 Inv-loop μ-loop
-sub-if1 c = ?
+sub-if1 c = search needs
 
--- src/main.rt:146:13
 same-length : tie.Need-same-length Inv-loop μ-loop
-same-length c = ?
+same-length c = search needs
 
--- src/main.rt:146:13
 returns : tie.Need-returns Inv-loop μ-loop
-returns c = ?
+returns c = search needs
 
--- src/main.rt:148:25
 shared-slice-read-nibble : tie.Need-shared-slice-read-nibble Inv-loop μ-loop
-shared-slice-read-nibble c = ?
+shared-slice-read-nibble c = search needs
 
--- src/main.rt:148:18
 nibble-requires : tie.Need-nibble-requires Inv-loop μ-loop
-nibble-requires c κs = ?
+nibble-requires c κs = search needs
 
--- src/main.rt:148:18
 mul-out : tie.Need-mul-out Inv-loop μ-loop
-mul-out c = ?
+mul-out c = search needs
 
--- src/main.rt:148:51
 add-nibble : tie.Need-add-nibble Inv-loop μ-loop
-add-nibble c = ?
+add-nibble c = search needs
 
--- src/main.rt:148:47
 shared-slice-read-nibble-2 : tie.Need-shared-slice-read-nibble-2 Inv-loop μ-loop
-shared-slice-read-nibble-2 c = ?
+shared-slice-read-nibble-2 c = search needs
 
--- src/main.rt:148:40
 nibble-requires-2 : tie.Need-nibble-requires-2 Inv-loop μ-loop
-nibble-requires-2 c κs = ?
+nibble-requires-2 c κs = search needs
 
--- src/main.rt:148:18
 add-out : tie.Need-add-out Inv-loop μ-loop
-add-out c = ?
+add-out c = search needs
 
--- src/main.rt:148:9
 slice-write-out : tie.Need-slice-write-out Inv-loop μ-loop
-slice-write-out c = ?
+slice-write-out c = search needs
 
--- src/main.rt:149:9
 add-i : tie.Need-add-i Inv-loop μ-loop
-add-i c = ?
+add-i c = search needs
 
--- src/main.rt:150:9
 add-n : tie.Need-add-n Inv-loop μ-loop
-add-n c = ?
+add-n c = search needs
 
--- src/main.rt:144:5
 loop-less : tie.Need-loop-less Inv-loop μ-loop
-loop-less c = ?
+loop-less c = search needs
 
--- src/main.rt:144:5
 loop-again : tie.Need-loop-again Inv-loop μ-loop
-loop-again c = ?
+loop-again c = simp length-set (search needs)
 
--- src/main.rt:139:1
 same-length-2 : tie.Need-same-length-2 Inv-loop μ-loop
-same-length-2 c = ?
+same-length-2 c = search needs
 
--- src/main.rt:139:1
 returns-2 : tie.Need-returns-2 Inv-loop μ-loop
-returns-2 c = ?
+returns-2 c = search needs
 
 pub decode-spec : {M : Type 1} → statement M
 decode-spec =
