@@ -1,35 +1,29 @@
 use borrow.Author.Needs.{needs}
 use Rattle.unsolicited.proofs.cgreg.CGReg.from_checked.Statement.{statement}
 use Rattle.unsolicited.proofs.cgreg.CGReg.from_checked.Tie as tie
-use Rattle.unsolicited.proofs.cgreg.CGReg.from_checked.Reads as reads
-use Rattle.unsolicited.proofs.cgreg.CGReg.from_checked.Lts as lts
-use Rattle.text.proofs.bytes.starts_with.Reads as starts-with-reads
-use Rattle.text.proofs.part.skip.Reads as skip-reads
-use Rattle.unsolicited.proofs.network_registration.registration.Reads as registration-reads
+use Rattle.text.proofs.Readings.{reader}
+use Rattle.unsolicited.specs.Registration.{cgregText}
+use Rattle.unsolicited.proofs.Registrations.{fields-via}
 
--- src/cgreg.rt:18:38
 slice-aggregate-starts-with : tie.Need-slice-aggregate-starts-with
 slice-aggregate-starts-with c = search needs
 
--- src/cgreg.rt:18:13
 starts-with-requires : tie.Need-starts-with-requires
 starts-with-requires c κs = search needs
 
--- src/cgreg.rt:19:13
 returns : tie.Need-returns
-returns c = ?
+unfolding cgregText
+returns c = search reader
 
--- src/cgreg.rt:21:44
 skip-requires : tie.Need-skip-requires
 skip-requires c κs = search needs
 
--- src/cgreg.rt:21:9
 registration-requires : tie.Need-registration-requires
 registration-requires c κs = search needs
 
--- src/cgreg.rt:15:5
 returns-2 : tie.Need-returns-2
-returns-2 c = ?
+unfolding cgregText
+returns-2 c = search (reader, fields-via)
 
 pub from-checked-spec : {M : Type 1} → statement M
 from-checked-spec =
