@@ -1,1 +1,2 @@
+pub mod Gnss
 pub mod Registration

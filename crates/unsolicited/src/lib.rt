@@ -3,3 +3,4 @@ pub mod cereg;
 pub mod cgreg;
 pub mod creg;
 pub mod network_registration;
+pub mod ugnsinf;
