@@ -1,7 +1,8 @@
+-- The pieces are laid one behind the other. Assumes nothing.
 use borrow.Author.Needs.{needs}
+use Rattle.at_command.proofs.Laying.{lay-on}
 use Rattle.at_command.proofs.cntp.lay_sync.Statement.{statement}
 use Rattle.at_command.proofs.cntp.lay_sync.Tie as tie
-use Rattle.at_command.proofs.Laying.{lay-on}
 
 slice-aggregate-lay : tie.Need-slice-aggregate-lay
 slice-aggregate-lay c = search needs
@@ -40,7 +41,18 @@ same-length : tie.Need-same-length
 same-length c = search needs
 
 returns : tie.Need-returns
-returns c = lay-on (lay-on (lay-on (lay-on (lay-on (lay-on (c .before .before .before .before .before .before .before .before .before .before .before .before .before .before .before .before .before .before .before .before .before .before .before .before .before .before .before .before .before .lay .ensures) (c .before .before .before .before .before .before .before .before .before .before .before .before .before .before .before .before .before .before .before .before .before .before .before .before .before .lay-quoted .ensures)) (c .before .before .before .before .before .before .before .before .before .before .before .before .before .before .before .before .before .before .before .before .lay2 .ensures)) (c .before .before .before .before .before .before .before .before .before .before .before .before .before .before .before .before .lay-decimal .ensures)) (c .before .before .before .before .before .before .before .before .before .before .before .lay3 .ensures)) (c .before .before .before .before .before .before .before .lay-decimal2 .ensures)) (c .before .before .lay4 .ensures)
+returns c = let s = c .before .before .before .before .before .before .before in
+    let t = s .before .before .before .before in
+    let u = t .before .before .before .before .before in
+    let v = u .before .before .before .before in
+    let w = v .before .before .before .before .before in
+    lay-on
+    (lay-on
+    (lay-on
+    (lay-on (lay-on (lay-on (w .before .before .before .before .lay .ensures) (w .lay-quoted .ensures)) (v .lay2 .ensures)) (u .lay-decimal .ensures))
+    (t .lay3 .ensures))
+    (s .lay-decimal2 .ensures))
+    (c .before .before .lay4 .ensures)
 
 pub lay-sync-spec : {M : Type 1} → statement M
 lay-sync-spec =

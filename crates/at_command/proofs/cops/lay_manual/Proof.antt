@@ -1,7 +1,8 @@
+-- The pieces are laid one behind the other. Assumes nothing.
 use borrow.Author.Needs.{needs}
+use Rattle.at_command.proofs.Laying.{lay-on}
 use Rattle.at_command.proofs.cops.lay_manual.Statement.{statement}
 use Rattle.at_command.proofs.cops.lay_manual.Tie as tie
-use Rattle.at_command.proofs.Laying.{lay-on}
 
 slice-aggregate-lay : tie.Need-slice-aggregate-lay
 slice-aggregate-lay c = search needs
@@ -28,7 +29,9 @@ same-length : tie.Need-same-length
 same-length c = search needs
 
 returns : tie.Need-returns
-returns c = lay-on (lay-on (lay-on (c .before .before .before .before .before .before .before .before .before .before .before .before .before .before .before .before .lay .ensures) (c .before .before .before .before .before .before .before .before .before .before .before .before .lay2 .ensures)) (c .before .before .before .before .before .before .before .lay3 .ensures)) (c .before .before .lay4 .ensures)
+returns c = let s = c .before .before .before .before .before .before .before in
+    let t = s .before .before .before .before .before in
+    lay-on (lay-on (lay-on (t .before .before .before .before .lay .ensures) (t .lay2 .ensures)) (s .lay3 .ensures)) (c .before .before .lay4 .ensures)
 
 pub lay-manual-spec : {M : Type 1} → statement M
 lay-manual-spec =

@@ -1,7 +1,8 @@
+-- The pieces are laid one behind the other. Assumes nothing.
 use borrow.Author.Needs.{needs}
+use Rattle.at_command.proofs.Laying.{lay-on}
 use Rattle.at_command.proofs.httptofs.lay_download.Statement.{statement}
 use Rattle.at_command.proofs.httptofs.lay_download.Tie as tie
-use Rattle.at_command.proofs.Laying.{lay-on}
 
 slice-aggregate-lay : tie.Need-slice-aggregate-lay
 slice-aggregate-lay c = search needs
@@ -31,7 +32,10 @@ same-length : tie.Need-same-length
 same-length c = search needs
 
 returns : tie.Need-returns
-returns c = lay-on (lay-on (lay-on (lay-on (c .before .before .before .before .before .before .before .before .before .before .before .before .before .before .before .before .before .before .before .before .lay .ensures) (c .before .before .before .before .before .before .before .before .before .before .before .before .before .before .before .before .lay-quoted .ensures)) (c .before .before .before .before .before .before .before .before .before .before .before .lay2 .ensures)) (c .before .before .before .before .before .before .before .lay-quoted2 .ensures)) (c .before .before .lay3 .ensures)
+returns c = let s = c .before .before .before .before .before .before .before in
+    let t = s .before .before .before .before in
+    let u = t .before .before .before .before .before in
+    lay-on (lay-on (lay-on (lay-on (u .before .before .before .before .lay .ensures) (u .lay-quoted .ensures)) (t .lay2 .ensures)) (s .lay-quoted2 .ensures)) (c .before .before .lay3 .ensures)
 
 pub lay-download-spec : {M : Type 1} → statement M
 lay-download-spec =

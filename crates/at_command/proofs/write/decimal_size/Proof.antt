@@ -1,9 +1,10 @@
-use Rattle.at_command.proofs.write.decimal_size.Statement.{statement}
-use Rattle.at_command.proofs.write.decimal_size.Tie as tie
+-- Each test says how often ten divides. Assumes nothing.
+use Prim.Native.Nat.{_/_}
 use native.Mathlib.Omega.{arith}
 use lib.Dec.{lit≤}
-use Prim.Native.Nat.{_/_}
 use Rattle.at_command.proofs.Decimals.{last-one, last-more, has-digits}
+use Rattle.at_command.proofs.write.decimal_size.Statement.{statement}
+use Rattle.at_command.proofs.write.decimal_size.Tie as tie
 
 returns : tie.Need-returns
 returns c = has-digits _ _ (lit≤ tt) (last-one _ (c .if1 .taken))

@@ -1,7 +1,8 @@
+-- Each digit by what `digit` promises. Assumes nothing.
 use borrow.Author.Needs.{needs}
+use Rattle.at_command.specs.Lay.{lastDigits}
 use Rattle.at_command.proofs.write.five_digits.Statement.{statement}
 use Rattle.at_command.proofs.write.five_digits.Tie as tie
-use Rattle.at_command.specs.Lay.{lastDigits}
 
 digit-requires : tie.Need-digit-requires
 digit-requires c κs = search needs

@@ -1,6 +1,7 @@
+-- Either test. Assumes nothing.
+use borrow.Author.Tests.{eq-eqb, ne-eqb}
 use Rattle.at_command.proofs.write.is_marked.Statement.{statement}
 use Rattle.at_command.proofs.write.is_marked.Tie as tie
-use borrow.Author.Tests.{eq-eqb, ne-eqb}
 
 returns : tie.Need-returns
 returns c = rw (eq-eqb _ _ (c .if1 .taken))

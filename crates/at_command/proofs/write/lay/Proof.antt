@@ -1,14 +1,14 @@
 -- The loop's invariant: the first i bytes of the piece are laid. Assumes nothing.
-use Rattle.at_command.proofs.write.lay.Statement.{statement}
-use Rattle.at_command.proofs.write.lay.Tie as tie
 use mathlib.Core.Path.{_≡_, refl}
 use Prim.Native.Nat.{_+_, _-_, _≤_}
 use native.Mathlib.Nat.{add-zero}
 use native.Mathlib.Omega.{arith}
-use borrow.Author.Needs.{needs}
 use lib.ListN.{length, take}
+use borrow.Author.Needs.{needs}
 use Rattle.at_command.specs.Lay.{Lays}
 use Rattle.at_command.proofs.Laying.{lay-none, lay-next, lay-all}
+use Rattle.at_command.proofs.write.lay.Statement.{statement}
+use Rattle.at_command.proofs.write.lay.Tie as tie
 
 abbrev Inv-loop : tie.InvT-loop
 Inv-loop piece at out₀ i₀ out i = (i ≤ length piece) × Lays (take i piece) at out₀ (at + i) out × (length out ≡ length out₀)

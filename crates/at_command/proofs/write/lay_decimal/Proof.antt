@@ -1,11 +1,12 @@
-use borrow.Author.Needs.{needs}
-use Rattle.at_command.proofs.write.lay_decimal.Statement.{statement}
-use Rattle.at_command.proofs.write.lay_decimal.Tie as tie
+-- Of five digits the last ones are the number's. Assumes nothing.
 use mathlib.Core.Path.{refl, ap}
 use native.Mathlib.Omega.{arith}
 use lib.ListN.{length}
+use borrow.Author.Needs.{needs}
 use Rattle.at_command.proofs.Decimals.{last-part}
 use Rattle.at_command.proofs.Laying.{lay-as}
+use Rattle.at_command.proofs.write.lay_decimal.Statement.{statement}
+use Rattle.at_command.proofs.write.lay_decimal.Tie as tie
 
 five-digits-requires : tie.Need-five-digits-requires
 five-digits-requires c κs = search needs

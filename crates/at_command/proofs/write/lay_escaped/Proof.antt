@@ -1,16 +1,14 @@
 -- The loop's invariant: the first i bytes of the text are laid, with their backslashes. Assumes nothing.
-use Rattle.at_command.proofs.write.lay_escaped.Statement.{statement}
-use Rattle.at_command.proofs.write.lay_escaped.Tie as tie
 use mathlib.Core.Path.{_≡_, refl}
 use Prim.Native.Nat.{_+_, _-_, _≤_}
 use native.Mathlib.Omega.{arith}
+use lib.ListN.{length, take, length-set}
 use borrow.Author.Needs.{needs}
-use lib.ListN.{length, take}
 use Rattle.at_command.specs.Lay.{Lays}
 use Rattle.at_command.specs.Piece.{escaped}
 use Rattle.at_command.proofs.Laying.{lay-none, room-one, room-two, escape-one, escape-two, escape-all}
-use lib.ListN.{length, take, length-set}
-use Prim.Native.Nat.{_+_, _-_, _≤_}
+use Rattle.at_command.proofs.write.lay_escaped.Statement.{statement}
+use Rattle.at_command.proofs.write.lay_escaped.Tie as tie
 
 abbrev Inv-loop : tie.InvT-loop
 Inv-loop piece at out₀ i₀ e₀ out i e = (i ≤ length piece) × Lays (escaped (take i piece)) at out₀ e out × (length out ≡ length out₀)

@@ -1,11 +1,12 @@
-use borrow.Author.Needs.{needs}
-use Rattle.at_command.proofs.write.lay_quoted.Statement.{statement}
-use Rattle.at_command.proofs.write.lay_quoted.Tie as tie
+-- A quote, the text, a quote. Assumes nothing.
 use native.Mathlib.Omega.{arith}
 use denote.Ref.{now}
+use borrow.Author.Needs.{needs}
 use Rattle.at_command.specs.Piece.{quoted}
 use Rattle.at_command.proofs.Laying.{lay-on}
 use Rattle.at_command.proofs.Sizes.{quoted-adds}
+use Rattle.at_command.proofs.write.lay_quoted.Statement.{statement}
+use Rattle.at_command.proofs.write.lay_quoted.Tie as tie
 
 slice-aggregate-lay : tie.Need-slice-aggregate-lay
 slice-aggregate-lay c = search needs
@@ -27,7 +28,8 @@ same-length c = search needs
 
 returns : tie.Need-returns
 unfolding quoted
-returns c = let s = c .before .before .before .before .before .before .before in lay-on (lay-on (s .before .before .before .before .lay .ensures) (s .lay-escaped .ensures)) (c .before .before .lay2 .ensures)
+returns c = let s = c .before .before .before .before .before .before .before in
+    lay-on (lay-on (s .before .before .before .before .lay .ensures) (s .lay-escaped .ensures)) (c .before .before .lay2 .ensures)
 
 pub lay-quoted-spec : {M : Type 1} → statement M
 lay-quoted-spec =

@@ -1,9 +1,10 @@
+-- The command is there whole. Assumes nothing.
+use mathlib.Core.Path.{refl}
+use denote.Ref.{now}
 use borrow.Author.Needs.{needs}
+use Rattle.at_command.proofs.Writing.{no-room, laid}
 use Rattle.at_command.proofs.write.plain.Statement.{statement}
 use Rattle.at_command.proofs.write.plain.Tie as tie
-use mathlib.Core.Path.{refl}
-use Rattle.at_command.proofs.Writing.{no-room, laid}
-use denote.Ref.{now}
 
 returns : tie.Need-returns
 returns c = no-room (now (c .before .before .before .args .command)) _ _ refl (c .if1 .taken)

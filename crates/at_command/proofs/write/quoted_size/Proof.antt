@@ -1,10 +1,11 @@
-use borrow.Author.Needs.{needs}
-use Rattle.at_command.proofs.write.quoted_size.Statement.{statement}
-use Rattle.at_command.proofs.write.quoted_size.Tie as tie
+-- One byte more for each quote and each backslash. Assumes nothing.
 use native.Mathlib.Omega.{arith}
+use denote.Ref.{now}
+use borrow.Author.Needs.{needs}
 use Rattle.text.proofs.Parts.{count-le}
 use Rattle.at_command.proofs.Sizes.{quoted-length}
-use denote.Ref.{now}
+use Rattle.at_command.proofs.write.quoted_size.Statement.{statement}
+use Rattle.at_command.proofs.write.quoted_size.Tie as tie
 
 add-result : tie.Need-add-result
 add-result c = search needs

@@ -1,7 +1,8 @@
+-- One law for each way out. Assumes nothing.
 use borrow.Author.Needs.{needs}
+use Rattle.at_command.proofs.Writing.{first-long, second-long, first-unfit, second-unfit, both-fit}
 use Rattle.at_command.proofs.write.refusal.Statement.{statement}
 use Rattle.at_command.proofs.write.refusal.Tie as tie
-use Rattle.at_command.proofs.Writing.{first-long, second-long, first-unfit, second-unfit, both-fit}
 
 returns : tie.Need-returns
 returns c = search first-long

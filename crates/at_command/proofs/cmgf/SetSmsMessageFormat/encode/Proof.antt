@@ -1,7 +1,8 @@
+-- The format is one digit, which is computed. Assumes nothing.
 use borrow.Author.Needs.{needs}
+use Rattle.at_command.specs.Piece.{digitsUpTo, decimal}
 use Rattle.at_command.proofs.cmgf.SetSmsMessageFormat.encode.Statement.{statement}
 use Rattle.at_command.proofs.cmgf.SetSmsMessageFormat.encode.Tie as tie
-use Rattle.at_command.specs.Piece.{digitsUpTo, decimal}
 
 enum-told : tie.Need-enum-told
 enum-told c = search needs

@@ -1,12 +1,12 @@
-use borrow.Author.Needs.{needs}
-use Rattle.at_command.proofs.cmgr.ReadSms.encode.Statement.{statement}
-use Rattle.at_command.proofs.cmgr.ReadSms.encode.Tie as tie
+-- Three pieces are laid one behind the other. Assumes nothing.
 use native.Mathlib.Omega.{arith}
 use lib.ListN.{length-append}
-use Rattle.at_command.specs.Request.{readSms}
+use borrow.Author.Needs.{needs}
+use Rattle.at_command.specs.Request.{readSms, commandOf}
 use Rattle.at_command.proofs.Laying.{lay-on}
-use Rattle.at_command.specs.Request.{commandOf, readSms}
 use Rattle.at_command.proofs.Writing.{no-room, laid}
+use Rattle.at_command.proofs.cmgr.ReadSms.encode.Statement.{statement}
+use Rattle.at_command.proofs.cmgr.ReadSms.encode.Tie as tie
 
 cast-index : tie.Need-cast-index
 cast-index c = search needs
@@ -39,7 +39,8 @@ same-length : tie.Need-same-length
 same-length c = search needs
 
 returns-2 : tie.Need-returns-2
-returns-2 c = laid _ _ _ _ (lay-on (lay-on (c .before .before .before .before .before .before .before .before .before .before .before .lay .ensures) (c .before .before .before .before .before .before .before .lay-decimal .ensures)) (c .before .before .lay2 .ensures))
+returns-2 c = let s = c .before .before .before .before .before .before .before in
+    laid _ _ _ _ (lay-on (lay-on (s .before .before .before .before .lay .ensures) (s .lay-decimal .ensures)) (c .before .before .lay2 .ensures))
 
 pub encode-spec : {M : Type 1} → statement M
 encode-spec =

@@ -1,13 +1,13 @@
-use borrow.Author.Needs.{needs}
-use Rattle.at_command.proofs.cntp.SynchronizeNetworkTime.encode.Statement.{statement}
-use Rattle.at_command.proofs.cntp.SynchronizeNetworkTime.encode.Tie as tie
+-- A refusal of its text, one for the room, or the command that was laid. Assumes nothing.
 use native.Mathlib.Omega.{arith}
-use denote.Ref.{now}
 use lib.ListN.{length-append}
-use Rattle.at_command.proofs.Writing.{refuses, refuses-7, writes, first-limited}
+use denote.Ref.{now}
+use borrow.Author.Needs.{needs}
 use Rattle.at_command.specs.Lay.{refusalOf}
 use Rattle.at_command.specs.Request.{synchronizeNetworkTime}
 use Rattle.at_command.proofs.Writing.{refuses, refuses-7, writes, first-limited}
+use Rattle.at_command.proofs.cntp.SynchronizeNetworkTime.encode.Statement.{statement}
+use Rattle.at_command.proofs.cntp.SynchronizeNetworkTime.encode.Tie as tie
 
 slice-aggregate-refusal : tie.Need-slice-aggregate-refusal
 slice-aggregate-refusal c = search needs
@@ -17,7 +17,8 @@ refusal-requires c κs = search needs
 
 returns : tie.Need-returns
 unfolding refusalOf
-returns c = refuses (synchronizeNetworkTime (now (c .before .before .before .before .before .args .ntp-server)) (c .before .before .before .before .before .args .self .timezone) (c .before .before .before .before .before .args .self .cid)) _ _ (c .before .refusal .ensures) (c .if1 .taken)
+returns c = let a = c .before .before .before .before .before .args in
+    refuses (synchronizeNetworkTime (now (a .ntp-server)) (a .self .timezone) (a .self .cid)) _ _ (c .before .refusal .ensures) (c .if1 .taken)
 
 cast-cid : tie.Need-cast-cid
 cast-cid c = search needs
@@ -42,7 +43,9 @@ add-if2-2 c = search needs
 
 returns-2 : tie.Need-returns-2
 unfolding refusalOf
-returns-2 c = refuses-7 (synchronizeNetworkTime (now (c .before .before .before .before .before .before .before .before .before .before .args .ntp-server)) (c .before .before .before .before .before .before .before .before .before .before .args .self .timezone) (c .before .before .before .before .before .before .before .before .before .before .args .self .cid)) _ _ (c .before .before .before .before .before .before .refusal .ensures) (c .before .before .before .before .before .if1 .left) _ (simp length-append (omega arith)) (c .if2 .taken)
+returns-2 c = let s = c .before .before .before .before .before in
+    let a = s .before .before .before .before .before .args in
+    refuses-7 (synchronizeNetworkTime (now (a .ntp-server)) (a .self .timezone) (a .self .cid)) _ _ (s .before .refusal .ensures) (s .if1 .left) _ (simp length-append (omega arith)) (c .if2 .taken)
 
 lay-sync-requires : tie.Need-lay-sync-requires
 lay-sync-requires c κs = search needs
@@ -52,7 +55,9 @@ same-length c = search needs
 
 returns-3 : tie.Need-returns-3
 unfolding refusalOf
-returns-3 c = writes (synchronizeNetworkTime (now (c .before .before .before .before .before .before .before .before .before .before .before .before .before .before .args .ntp-server)) (c .before .before .before .before .before .before .before .before .before .before .before .before .before .before .args .self .timezone) (c .before .before .before .before .before .before .before .before .before .before .before .before .before .before .args .self .cid)) _ _ (c .before .before .before .before .before .before .before .before .before .before .refusal .ensures) (c .before .before .before .before .before .before .before .before .before .if1 .left) _ _ (c .before .before .lay-sync .ensures)
+returns-3 c = let s = c .before .before .before .before .before .before .before .before .before in
+    let a = s .before .before .before .before .before .args in
+    writes (synchronizeNetworkTime (now (a .ntp-server)) (a .self .timezone) (a .self .cid)) _ _ (s .before .refusal .ensures) (s .if1 .left) _ _ (c .before .before .lay-sync .ensures)
 
 pub encode-spec : {M : Type 1} → statement M
 encode-spec =

@@ -1,17 +1,19 @@
+-- A refusal of its texts, one for the room, or the command that was laid. Assumes nothing.
+use native.Mathlib.Omega.{arith}
+use lib.ListN.{length-append}
+use denote.Ref.{now}
 use borrow.Author.Needs.{needs}
+use Rattle.at_command.specs.Request.{downloadToFileSystem}
+use Rattle.at_command.proofs.Writing.{refuses, refuses-7, writes, first-limited, second-limited}
 use Rattle.at_command.proofs.httptofs.DownloadToFileSystem.encode.Statement.{statement}
 use Rattle.at_command.proofs.httptofs.DownloadToFileSystem.encode.Tie as tie
-use native.Mathlib.Omega.{arith}
-use denote.Ref.{now}
-use lib.ListN.{length-append}
-use Rattle.at_command.proofs.Writing.{refuses, refuses-7, writes, first-limited, second-limited}
-use Rattle.at_command.specs.Request.{downloadToFileSystem}
 
 refusal-requires : tie.Need-refusal-requires
 refusal-requires c κs = search needs
 
 returns : tie.Need-returns
-returns c = refuses (downloadToFileSystem (now (c .before .before .before .before .before .args .url)) (now (c .before .before .before .before .before .args .file-path))) _ _ (c .before .refusal .ensures) (c .if1 .taken)
+returns c = let a = c .before .before .before .before .before .args in
+    refuses (downloadToFileSystem (now (a .url)) (now (a .file-path))) _ _ (c .before .refusal .ensures) (c .if1 .taken)
 
 quoted-size-requires : tie.Need-quoted-size-requires
 quoted-size-requires c κs = search first-limited
@@ -26,7 +28,9 @@ add-if2-2 : tie.Need-add-if2-2
 add-if2-2 c = search needs
 
 returns-2 : tie.Need-returns-2
-returns-2 c = refuses-7 (downloadToFileSystem (now (c .before .before .before .before .before .before .before .before .args .url)) (now (c .before .before .before .before .before .before .before .before .args .file-path))) _ _ (c .before .before .before .before .refusal .ensures) (c .before .before .before .if1 .left) _ (simp length-append (omega arith)) (c .if2 .taken)
+returns-2 c = let s = c .before .before .before in
+    let a = s .before .before .before .before .before .args in
+    refuses-7 (downloadToFileSystem (now (a .url)) (now (a .file-path))) _ _ (s .before .refusal .ensures) (s .if1 .left) _ (simp length-append (omega arith)) (c .if2 .taken)
 
 lay-download-requires : tie.Need-lay-download-requires
 lay-download-requires c κs = search needs
@@ -35,7 +39,9 @@ same-length : tie.Need-same-length
 same-length c = search needs
 
 returns-3 : tie.Need-returns-3
-returns-3 c = writes (downloadToFileSystem (now (c .before .before .before .before .before .before .before .before .before .before .before .before .args .url)) (now (c .before .before .before .before .before .before .before .before .before .before .before .before .args .file-path))) _ _ (c .before .before .before .before .before .before .before .before .refusal .ensures) (c .before .before .before .before .before .before .before .if1 .left) _ _ (c .before .before .lay-download .ensures)
+returns-3 c = let s = c .before .before .before .before .before .before .before in
+    let a = s .before .before .before .before .before .args in
+    writes (downloadToFileSystem (now (a .url)) (now (a .file-path))) _ _ (s .before .refusal .ensures) (s .if1 .left) _ _ (c .before .before .lay-download .ensures)
 
 pub encode-spec : {M : Type 1} → statement M
 encode-spec =

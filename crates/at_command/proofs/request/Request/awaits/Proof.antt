@@ -1,3 +1,4 @@
+-- Each request by itself. Assumes nothing.
 use borrow.Author.Needs.{needs}
 use Rattle.at_command.proofs.request.Request.awaits.Statement.{statement}
 use Rattle.at_command.proofs.request.Request.awaits.Tie as tie

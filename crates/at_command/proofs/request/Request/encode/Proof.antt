@@ -1,3 +1,4 @@
+-- Each request by what its own writer promises. Assumes nothing.
 use borrow.Author.Needs.{needs}
 use Rattle.at_command.proofs.request.Request.encode.Statement.{statement}
 use Rattle.at_command.proofs.request.Request.encode.Tie as tie
