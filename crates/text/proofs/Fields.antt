@@ -123,10 +123,10 @@ module _ (b : ℕ) where
   field-in (suc n) s h =
       split s
       (λ k.
-        let l : n < length (fields b (after b s)) = let z = ap length (fields-has s k) in omega arith in
-        let i = field-in n (after b s) l in
-        let d = length-drop (indexOf b s + 1) s in
-        rw (place-has s n k, fields-has s k) (omega arith))
+      let l : n < length (fields b (after b s)) = let z = ap length (fields-has s k) in omega arith in
+      let i = field-in n (after b s) l in
+      let d = length-drop (indexOf b s + 1) s in
+      rw (place-has s n k, fields-has s k) (omega arith))
       (λ k. absurd (let z = ap length (fields-not s k) in omega arith))
 
 -- `field_start`
