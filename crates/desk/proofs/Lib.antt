@@ -1,0 +1,12 @@
+pub mod Basics
+pub mod Cutting
+pub mod Searching
+pub mod Sorting
+pub mod Feeding
+pub mod Opening
+pub mod Demand
+pub mod Slips
+pub mod Apart
+pub mod Accepted
+pub mod Leaned
+pub mod One

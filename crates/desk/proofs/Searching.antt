@@ -1,0 +1,112 @@
+-- Laws of a search through a chunk: its turns, the bytes that are laid at once, and the bytes with no LF.
+use Prim.Native.Nat.{ℕ, suc, _+_, _-_, _≤_, _<_}
+use mathlib.Core.Path.{_≡_, refl, _∙_}
+use mathlib.Core.Bool.{true, false}
+use mathlib.Core.Logic.{⊎-elim}
+use mathlib.Core.List.{List, [], _∷_}
+use native.Mathlib.Omega.{arith}
+use native.Mathlib.Numerals.{add-one}
+use lib.ListN.{length, take, drop, getD, set, length-set, drop-of-length-le}
+use lib.Seq.{drop-cons}
+use lib.Dec.{ltb}
+use borrow.Author.Tests.{ltb-true, ltb-false}
+use Rattle.desk.specs.Cut.{nothing, cutOne}
+use Rattle.desk.specs.Desk.{Tray, viewOf, layOne, layAll, stops, countOf, pieceIn}
+use Rattle.desk.specs.Search.{trayOf, Pushed, pushOne, foundAfter, Filled, Clear, Putting}
+use Rattle.desk.proofs.Basics.{both}
+use Rattle.desk.proofs.Cutting.{view-lay, past-below, prompt-far, push-more}
+
+-- ---- one byte more
+
+found-none : (n : ℕ) (t : Tray) → foundAfter n t [] ≡ record { taken = n; tray = t; piece = nothing }
+unfolding countOf pieceIn layAll
+found-none n t = let e : n + 0 ≡ n = omega arith in rw e
+
+module _ (n : ℕ) (t : Tray) (b : ℕ) (bs : List ℕ) where
+  found-stop : stops (pushOne t b .piece) ≡ true → foundAfter n t (b ∷ bs) ≡ record { taken = n + 1; tray = layOne t b; piece = pushOne t b .piece }
+  unfolding countOf pieceIn layAll
+  found-stop e = rw e
+
+  found-on : stops (pushOne t b .piece) ≡ false → foundAfter n t (b ∷ bs) ≡ foundAfter (n + 1) (layOne t b) bs
+  unfolding countOf pieceIn layAll
+  found-on e =
+      let v = view-lay t b in
+      let k : n + suc (countOf (cutOne (viewOf t) b .view) bs) ≡ n + 1 + countOf (cutOne (viewOf t) b .view) bs = omega arith in
+      rw (e, k, v)
+
+-- ---- a turn of the search, at the byte i of the chunk
+
+module _ (chunk : List ℕ) (i : ℕ) (t : Tray) where
+  pub search-end : length chunk ≤ i → foundAfter i t (drop i chunk) ≡ record { taken = i; tray = t; piece = nothing }
+  search-end h = rw (drop-of-length-le chunk h) (found-none i t)
+
+  module _ {p : Pushed} (more : i < length chunk) (e : p ≡ pushOne t (getD chunk i 0)) where
+    pub search-stop : stops (p .piece) ≡ true → foundAfter i t (drop i chunk) ≡ record { taken = i + 1; tray = p .tray; piece = p .piece }
+    search-stop g = rw (drop-cons chunk i 0 more, e) (found-stop i t (getD chunk i 0) (drop (suc i) chunk) (rw e at g))
+
+    pub search-on : stops (p .piece) ≡ false → foundAfter i t (drop i chunk) ≡ foundAfter (i + 1) (p .tray) (drop (i + 1) chunk)
+    search-on g = rw (drop-cons chunk i 0 more, e, add-one i) (rw (add-one i) at (found-on i t (getD chunk i 0) (drop (suc i) chunk) (rw e at g)))
+
+-- the search from the chunk's start
+pub search-whole : (t : Tray) (chunk : List ℕ)
+    → foundAfter 0 t chunk ≡ record { taken = countOf (viewOf t) chunk; tray = layAll t (take (countOf (viewOf t) chunk) chunk); piece = pieceIn (viewOf t) chunk }
+search-whole t chunk = let e : 0 + countOf (viewOf t) chunk ≡ countOf (viewOf t) chunk = omega arith in rw e
+
+-- ---- bytes laid at once
+
+pub fill-none : (s : List ℕ) (len : ℕ) (chunk : List ℕ) (at : ℕ) → Filled s len chunk at 0 s
+fill-none s len chunk at =
+    let e : at + 0 ≡ at = omega arith in
+    let g : len + 0 ≡ len = omega arith in
+    record { few = omega arith; fits = omega arith; long = refl; on = rw (e, g) }
+
+-- a byte that is no LF, where at least two are held and one more is not past the length
+keep-byte : (s : List ℕ) (len b : ℕ) → length s ≡ 257 → 2 ≤ len → len < 256 → (b ≡ 10 → ⊥)
+    → _≡_ {A = Pushed} (record { tray = trayOf (set s len b) (len + 1); piece = nothing }) (pushOne (trayOf s len) b)
+keep-byte s len b full two room e =
+    push-more s full len b e (past-below len b room) refl (prompt-far s full len b (omega arith) (λ k. omega arith)) refl
+
+pub fill-more : (s : List ℕ) (len : ℕ) (chunk : List ℕ) (at n : ℕ) (now : List ℕ) → Putting s len chunk at (n + 1) → Filled s len chunk at n now
+    → Filled s len chunk at (n + 1) (set now (len + n) (getD chunk (at + n) 0))
+fill-more s len chunk at n now p f =
+    let full : length now ≡ 257 = f .long ∙ p .long in
+    let e : at + (n + 1) ≡ at + n + 1 = omega arith in
+    let g : len + (n + 1) ≡ len + n + 1 = omega arith in
+    record {
+      few = omega arith;
+      fits = omega arith;
+      long = simp length-set (f .long);
+      on =
+          rw (e, g)
+          (f .on
+          ∙ search-on chunk (at + n) (trayOf now (len + n)) (omega arith)
+          (keep-byte now (len + n) (getD chunk (at + n) 0) full (omega arith) (omega arith) (p .clear .none n (omega arith))) refl);
+    }
+
+-- ---- bytes with no LF
+
+pub clear-none : (s : List ℕ) (at : ℕ) → Clear s at 0
+clear-none s at = record { none = λ k h e. omega arith }
+
+pub clear-join : {s : List ℕ} {at n m : ℕ} → Clear s at n → Clear s (at + n) m → Clear s at (n + m)
+clear-join {s} {at} {n} {m} f g =
+    record {
+      none = λ k h e.
+          ⊎-elim
+          (λ (q : ltb k n ≡ true). f .none k (ltb-true k n q) e)
+          (λ (q : ltb k n ≡ false).
+          let le = ltb-false k n q in
+          let z : at + k ≡ at + n + (k - n) = omega arith in
+          g .none (k - n) (omega arith) (rw z at e))
+          (both (ltb k n));
+    }
+
+pub clear-at : {s : List ℕ} {at : ℕ} → (getD s at 0 ≡ 10 → ⊥) → Clear s at 1
+clear-at {s} {at} g = record { none = λ k h e. let z : at + k ≡ at = omega arith in g (rw z at e) }
+
+pub clear-one : {s : List ℕ} {at n : ℕ} → Clear s at n → (getD s (at + n) 0 ≡ 10 → ⊥) → Clear s at (n + 1)
+clear-one f g = clear-join f (clear-at g)
+
+-- fewer bytes have none either
+pub clear-part : {s : List ℕ} {at n m : ℕ} → m ≤ n → Clear s at n → Clear s at m
+clear-part h f = record { none = λ k g e. f .none k (omega arith) e }

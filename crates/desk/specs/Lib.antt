@@ -1,0 +1,9 @@
+pub mod Cut
+pub mod Kind
+pub mod Judge
+pub mod Rules
+pub mod Desk
+pub mod Search
+pub mod Says
+pub mod Script
+pub mod Demand

@@ -1,0 +1,95 @@
+-- What the code's types say on paper.
+use Prim.Native.Nat.{ℕ}
+use mathlib.Core.List.{List, [], _∷_}
+use lib.ListN.{take}
+use Rattle.text.specs.Reading.{Reading, read, refused}
+use Rattle.at_command.specs.Kind.{Kind}
+use Rattle.at_command.specs.says.Request.{kindSays, encodedSays}
+use Rattle.desk.specs.Cut.{Piece, nothing, blank, overlong, line}
+use Rattle.desk.specs.Kind.{Sort, response, unsolicited}
+use Rattle.desk.specs.Judge as J
+use Rattle.desk.specs.Judge.{Ruling}
+use Rattle.desk.specs.Desk.{State, Heard, quiet, event, Fed, Opened}
+use Rattle.desk.specs.Search.{trayOf, Pushed, Found}
+use Rattle.desk.specs.declared.Event.{Event}
+use Rattle.desk.specs.declared.Event.the-variants as E
+use Rattle.desk.specs.declared.Desk.{Desk}
+use Rattle.desk.specs.declared.command.Command.{Command}
+use Rattle.desk.specs.declared.command.Command.the-variants.{Idle, One, Two}
+use Rattle.desk.specs.declared.cutter.Piece.{Piece as PieceCode}
+use Rattle.desk.specs.declared.cutter.Piece.the-variants as P
+use Rattle.desk.specs.declared.cutter.Pushed.{Pushed as PushedCode}
+use Rattle.desk.specs.declared.cutter.Found.{Found as FoundCode}
+use Rattle.desk.specs.declared.judge.LineKind.{LineKind}
+use Rattle.desk.specs.declared.judge.LineKind.the-variants as L
+use Rattle.desk.specs.declared.judge.Judged.{Judged}
+use Rattle.desk.specs.declared.feed.FedAnswer.{FedAnswer}
+use Rattle.desk.specs.declared.feed.FedAnswer.the-variants as F
+use Rattle.desk.specs.declared.feed.Fed.{Fed as FedCode}
+use Rattle.desk.specs.declared.feed.FedParts.{FedParts}
+use Rattle.desk.specs.declared.open.Opened.{Opened as OpenedCode}
+
+-- the answers that a command still awaits
+abbrev pub awaitedOf : Command → List Kind
+awaitedOf Idle = []
+awaitedOf (One a) = kindSays a ∷ []
+awaitedOf (Two a b) = kindSays a ∷ kindSays b ∷ []
+
+abbrev pub sortSays : LineKind → Reading Sort
+sortSays (L.Refused n) = refused n
+sortSays (L.Response k) = read (response (kindSays k))
+sortSays L.Unsolicited = read unsolicited
+
+abbrev pub eventSays : Event → J.Event
+eventSays E.Overlong = J.Overlong
+eventSays (E.Stray n) = J.Stray n
+eventSays E.Failed = J.Failed
+eventSays E.Taken = J.Taken
+eventSays E.Done = J.Done
+eventSays E.Short = J.Short
+eventSays E.Unsolicited = J.Unsolicited
+
+abbrev pub rulingSays : Judged → Ruling
+rulingSays j = record { awaited = awaitedOf (j .command); event = eventSays (j .event) }
+
+-- a line is so many of the buffer's first bytes
+abbrev pub pieceSays : PieceCode → List ℕ → Piece
+pieceSays P.Nothing bytes = nothing
+pieceSays P.Blank bytes = blank
+pieceSays P.Overlong bytes = overlong
+pieceSays (P.Line n) bytes = line (take n bytes)
+
+abbrev pub sizeOf : PieceCode → ℕ
+sizeOf P.Nothing = 0
+sizeOf P.Blank = 0
+sizeOf P.Overlong = 0
+sizeOf (P.Line n) = n
+
+-- the desk, whole and in its parts
+abbrev pub stateIn : List ℕ → ℕ → Command → State
+stateIn bytes len command = record { tray = record { bytes = bytes; len = len }; awaited = awaitedOf command }
+
+abbrev pub stateOf : Desk → State
+stateOf d = stateIn (d .cutter .line) (d .cutter .len) (d .command)
+
+abbrev pub answerSays : FedAnswer → Reading Heard
+answerSays (F.Refused k) = refused k
+answerSays (F.Quiet n) = read (quiet n)
+answerSays (F.Heard e n size) = read (event (eventSays e) n size)
+
+-- an answer, with the lent buffers as they are after the call
+abbrev pub fedSays : FedCode → List ℕ → Fed
+fedSays r text = record { state = stateOf (r .desk); answer = answerSays (r .answer); text = text }
+
+abbrev pub partsSays : FedParts → List ℕ → List ℕ → Fed
+partsSays r bytes text = record { state = stateIn bytes (r .len) (r .command); answer = answerSays (r .answer); text = text }
+
+abbrev pub openedSays : OpenedCode → List ℕ → Opened
+openedSays r out = record { state = stateOf (r .desk); answer = encodedSays (r .answer); out = out }
+
+-- a byte, and a search, with the buffer as it is afterwards
+abbrev pub pushedSays : PushedCode → List ℕ → Pushed
+pushedSays r bytes = record { tray = trayOf bytes (r .len); piece = pieceSays (r .piece) bytes }
+
+abbrev pub foundSays : FoundCode → List ℕ → Found
+foundSays r bytes = record { taken = r .taken; tray = trayOf bytes (r .len); piece = pieceSays (r .piece) bytes }

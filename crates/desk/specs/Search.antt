@@ -1,0 +1,62 @@
+-- What the inner functions of a feed say: a search from a tray, bytes laid in it, bytes with no LF among them, and what is made of a piece.
+use Prim.Native.Nat.{ℕ, _+_, _-_, _≤_, _<_}
+use mathlib.Core.Path.{_≡_}
+use mathlib.Core.Bool.{Bool, false}
+use mathlib.Core.List.{List, [], _∷_, _++_}
+use lib.ListN.{length, take, drop, getD}
+use Rattle.text.specs.Reading.{Reading, read}
+use Rattle.at_command.specs.Kind.{Kind}
+use Rattle.desk.specs.Cut.{Piece, bare, long as tooLong, cutOne}
+use Rattle.desk.specs.Rules.{Verdict}
+use Rattle.desk.specs.Desk.{Tray, viewOf, layOne, layAll, countOf, pieceIn, Heard, heardOf, textOf}
+
+abbrev pub trayOf : List ℕ → ℕ → Tray
+trayOf bytes len = record { bytes = bytes; len = len }
+
+-- one byte
+pub record Pushed : Type 0 where
+  pub tray : Tray
+  pub piece : Piece
+
+abbrev pub pushOne : Tray → ℕ → Pushed
+pushOne t b = record { tray = layOne t b; piece = cutOne (viewOf t) b .piece }
+
+-- a search through a chunk, n bytes having been taken before it
+pub record Found : Type 0 where
+  pub taken : ℕ
+  pub tray : Tray
+  pub piece : Piece
+
+abbrev pub foundAfter : ℕ → Tray → List ℕ → Found
+foundAfter n t chunk =
+    record { taken = n + countOf (viewOf t) chunk; tray = layAll t (take (countOf (viewOf t) chunk) chunk); piece = pieceIn (viewOf t) chunk }
+
+-- n bytes of chunk from at on are held behind the first len of the bytes, and the search goes on after them
+pub record Filled (bytes : List ℕ) (len : ℕ) (chunk : List ℕ) (at n : ℕ) (after : List ℕ) : Type 0 where
+  pub few : n ≤ length chunk - at
+  pub fits : n ≤ 256 - len
+  pub long : length after ≡ length bytes
+  pub on : foundAfter at (trayOf bytes len) (drop at chunk) ≡ foundAfter (at + n) (trayOf after (len + n)) (drop (at + n) chunk)
+
+-- no LF among n bytes of s from at on
+pub record Clear (s : List ℕ) (at n : ℕ) : Type 0 where
+  pub none : (k : ℕ) → k < n → getD s (at + k) 0 ≡ 10 → ⊥
+
+-- n bytes with no LF can be laid, and none of them can make a prompt
+pub record Putting (bytes : List ℕ) (len : ℕ) (chunk : List ℕ) (at n : ℕ) : Type 0 where
+  pub long : length bytes ≡ 257
+  pub two : 2 ≤ len
+  pub room : len + n ≤ 256
+  pub some : at + n ≤ length chunk
+  pub clear : Clear chunk at n
+
+-- r says whether a line of len bytes is past its length with b
+pub record Past (len b : ℕ) (r : Bool) : Type 0 where
+  pub few : r ≡ false → len ≤ 256
+  pub is : (h : List ℕ) → length h ≡ len → r ≡ tooLong (bare (h ++ b ∷ []))
+
+-- what a feed makes of a verdict, n bytes having been taken: the answers awaited, what is told, and the text buffer
+pub record Tells (v : Verdict) (n : ℕ) (text : List ℕ) (awaited : List Kind) (answer : Reading Heard) (after : List ℕ) : Type 0 where
+  pub commands : awaited ≡ v .awaited
+  pub answers : answer ≡ read (heardOf n (v .seen))
+  pub texts : after ≡ textOf (v .seen) text

@@ -1,0 +1,32 @@
+// The command that is open: the answers that it still awaits.
+use at_command::request::Awaits;
+use at_command::request::ResponseKind;
+ghost use mathlib.Core.Path.{_≡_};
+ghost use Rattle.at_command.specs.says.Request.{awaitsSays};
+ghost use Rattle.desk.specs.Judge.{isOpen};
+ghost use Rattle.desk.specs.Says.{awaitedOf};
+
+pub enum Command {
+    Idle,
+    One(ResponseKind),
+    Two(ResponseKind, ResponseKind),
+}
+
+pub fn is_open(command: Command) -> bool
+    ensures { λ r. ⌜ r ≡ isOpen (awaitedOf command) ⌝ }
+{
+    match command {
+        Command::Idle => false,
+        Command::One(_) => true,
+        Command::Two(_, _) => true,
+    }
+}
+
+pub fn opened(awaits: Awaits) -> Command
+    ensures { λ r. ⌜ awaitedOf r ≡ awaitsSays awaits ⌝ }
+{
+    match awaits {
+        Awaits::One(a) => Command::One(a),
+        Awaits::Two(a, b) => Command::Two(a, b),
+    }
+}
