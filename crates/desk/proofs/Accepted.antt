@@ -8,10 +8,11 @@ use native.Mathlib.Omega.{arith}
 use lib.ListN.{length, getD, length-append}
 use lib.Seq.{length-take-le, getD-take, append-snoc}
 use lib.Dec.{ltb, eqb}
-use borrow.Author.Tests.{le-ltb, ltb-false, eqb-true, eqb-false, ne-eqb}
+use borrow.Author.Tests.{le-ltb, ltb-true, ltb-false, eqb-true, eqb-false, ne-eqb}
 use Rattle.text.specs.Bytes.{bytes, same, startsWith, endsWith, countOf}
 use Rattle.text.specs.Reading.{Reading, read, refused}
 use Rattle.text.specs.Line.{lineCheck, checked}
+use Rattle.text.proofs.LineLaws.{check-long}
 use Rattle.at_command.specs.Response.{Response, responseText}
 use Rattle.unsolicited.specs.Urc.{Unsolicited, urcText, urc}
 use Rattle.desk.specs.Cut.{View, held, Piece, bare, long, isPrompt, ended, cutOne, cutAll, viewAfter}
@@ -51,9 +52,8 @@ accepted-slip bytes l c e = record { complete = c; kind = by-trial l (urc-passed
 -- ---- a line and its LF
 
 short-checked : (l : List ℕ) → 0 ≡ lineCheck l → length l ≤ 256
-unfolding lineCheck
 short-checked l e =
-    ⊎-elim (λ f. let g : 0 ≡ 1 = e ∙ rw f in absurd (omega arith)) (λ f. ltb-false 256 (length l) f) (both (ltb 256 (length l)))
+    ⊎-elim (λ f. let g : 0 ≡ 1 = e ∙ sym (check-long l (ltb-true 256 (length l) f)) in absurd (omega arith)) (λ f. ltb-false 256 (length l) f) (both (ltb 256 (length l)))
 
 -- a line's first bytes are not past its length
 past-front : (h : List ℕ) (b : ℕ) (bs : List ℕ) → length (bare (h ++ b ∷ bs)) ≤ 256 → long (bare (h ++ b ∷ [])) ≡ false

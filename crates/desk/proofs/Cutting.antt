@@ -8,8 +8,9 @@ use native.Mathlib.Omega.{arith}
 use lib.ListN.{length, take, drop, getD, set, length-append}
 use lib.Seq.{length-take-le, take-suc, take-append-seam, drop-append-seam, append-snoc, set-split, take-suc-set}
 use lib.Dec.{ltb, eqb}
-use borrow.Author.Tests.{lt-ltb, le-ltb, ltb-false, eq-eqb, ne-eqb, eqb-true}
+use borrow.Author.Tests.{lt-ltb, le-ltb, ltb-false, eq-eqb, ne-eqb, eqb-true, eqb-false}
 use Rattle.text.specs.Bytes.{bytes, same, startsWith, endsWith}
+use Rattle.text.proofs.Finding.{other-length}
 use Rattle.desk.specs.Cut.{View, dropping, held, Piece, nothing, blank, overlong, line, Cut, bare, long, isPrompt, ended, cutOne}
 use Rattle.desk.specs.Desk.{Tray, viewOf, lenOf, laidBytes, layOne}
 use Rattle.desk.specs.Search.{trayOf, Pushed, pushOne, Past}
@@ -195,9 +196,8 @@ module _ (s : List ℕ) (full : length s ≡ 257) where
 
 -- "> " at a line's start
 pub prompt-length : (l : List ℕ) → isPrompt l ≡ true → length l ≡ 2
-unfolding same
 prompt-length l e =
-    ⊎-elim (λ f. eqb-true (length l) 2 f) (λ f. let z : true ≡ false = sym e ∙ ap (λ (t : Bool). t && startsWith (bytes "> ") l) f in never (cc)) (both (eqb (length l) 2))
+    ⊎-elim (λ f. eqb-true (length l) 2 f) (λ f. let z : true ≡ false = sym e ∙ sym (other-length l (bytes "> ") (eqb-false (length l) 2 f)) in never (cc)) (both (eqb (length l) 2))
 
 module _ (s : List ℕ) (full : length s ≡ 257) (len b : ℕ) where
   abbrev Prompt : Bool
@@ -214,10 +214,7 @@ module _ (s : List ℕ) (full : length s ≡ 257) (len b : ℕ) where
   prompt-other e f = sym (prompt-at e ∙ rw (ne-eqb b 32 f) (and-false (eqb (getD s 0 0) 62)))
 
   pub prompt-far : len ≤ 257 → (len ≡ 1 → ⊥) → false ≡ Prompt
-  unfolding same
-  prompt-far h e =
-      let n : length (take len s ++ b ∷ []) ≡ len + 1 = snoc-length (take len s) b ∙ rw (size-at s full len h) in
-      sym (ap (λ (t : Bool). t && startsWith (bytes "> ") (take len s ++ b ∷ [])) (ne-eqb (length (take len s ++ b ∷ [])) 2 (λ k. e (omega arith))))
+  prompt-far h e = other-length (take len s ++ b ∷ []) (bytes "> ") (λ k. e (omega (arith, snoc-length (take len s) b, size-at s full len h)))
 
   prompt-size : len ≤ 257 → true ≡ Prompt → len ≡ 1
   prompt-size h e = omega (arith, prompt-length (take len s ++ b ∷ []) (sym e), snoc-length (take len s) b, size-at s full len h)

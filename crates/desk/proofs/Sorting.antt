@@ -2,9 +2,9 @@
 use Prim.Native.Nat.{ℕ}
 use mathlib.Core.Path.{_≡_, refl, sym}
 use mathlib.Core.List.{List, [], _∷_}
-use borrow.Author.Tests.{eq-eqb, ne-eqb}
 use Rattle.text.specs.Reading.{read, refused, mapped, firstOf, worse}
-use Rattle.text.specs.Line.{lineCheck, checked}
+use Rattle.text.specs.Line.{lineCheck}
+use Rattle.text.proofs.LineLaws.{line-bad, line-good}
 use Rattle.at_command.specs.Kind.{Kind}
 use Rattle.at_command.specs.Response.{Response, kindOf, responseText}
 use Rattle.unsolicited.specs.Urc.{Unsolicited, urcText}
@@ -14,13 +14,13 @@ use Rattle.desk.specs.Judge.{stays, table}
 
 module _ (l : List ℕ) {n : ℕ} (check : n ≡ lineCheck l) where
   pub kind-unchecked : (n ≡ 0 → ⊥) → refused n ≡ lineKind l
-  unfolding lineKind checked
-  kind-unchecked e = rw (sym check, ne-eqb n 0 e)
+  unfolding lineKind
+  kind-unchecked e = line-bad sortText l n check e
 
   module _ (good : n ≡ 0) where
     passed : sortText l ≡ lineKind l
-    unfolding lineKind checked
-    passed = rw (sym check, eq-eqb n 0 good)
+    unfolding lineKind
+    passed = line-good sortText l n check (sortText l) good refl
 
     pub kind-response : {r : Response} → read r ≡ responseText l → read (response (kindOf r)) ≡ lineKind l
     unfolding sortText mapped firstOf

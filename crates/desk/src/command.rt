@@ -12,7 +12,7 @@ pub enum Command {
     Two(ResponseKind, ResponseKind),
 }
 
-pub fn is_open(command: Command) -> bool
+pub(crate) fn is_open(command: Command) -> bool
     ensures { λ r. ⌜ r ≡ isOpen (awaitedOf command) ⌝ }
 {
     match command {
@@ -22,7 +22,7 @@ pub fn is_open(command: Command) -> bool
     }
 }
 
-pub fn opened(awaits: Awaits) -> Command
+pub(crate) fn opened(awaits: Awaits) -> Command
     ensures { λ r. ⌜ awaitedOf r ≡ awaitsSays awaits ⌝ }
 {
     match awaits {

@@ -239,7 +239,7 @@ fn count_of(s: &[u8]) -> usize
 }
 
 // The search stops at the first byte that stops a feed; the count taken runs through that byte, or is the whole chunk.
-pub fn search(line: &mut [u8; 257], start: usize, chunk: &[u8]) -> Found
+pub(crate) fn search(line: &mut [u8; 257], start: usize, chunk: &[u8]) -> Found
     ensures { λ r. ⌜ (foundSays r (now (line .exit)) ≡ foundAfter 0 (trayOf (now (line .entry)) start) (now (chunk .entry))) × (length (now (line .exit)) ≡ 257) ⌝ }
 {
     let _count = count_of(line);

@@ -29,7 +29,7 @@ pub struct Judged {
 }
 
 // The line check, then the responses, then the unsolicited.
-pub fn kind_of(s: &[u8]) -> LineKind
+pub(crate) fn kind_of(s: &[u8]) -> LineKind
     ensures { λ r. ⌜ sortSays r ≡ lineKind (now (s .entry)) ⌝ }
 {
     let check = line::check_line(s);
@@ -107,7 +107,7 @@ fn respond(kind: ResponseKind, next: ResponseKind, taken: Judged, other: Judged)
 }
 
 // The first row that fits decides.
-pub fn judge(command: Command, kind: LineKind) -> Judged
+pub(crate) fn judge(command: Command, kind: LineKind) -> Judged
     ensures { λ r. ⌜ rulingSays r ≡ table (awaitedOf command) (sortSays kind) ⌝ }
 {
     match kind {
