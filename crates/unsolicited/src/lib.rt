@@ -4,6 +4,7 @@ pub mod cgreg;
 pub mod creg;
 pub mod network_registration;
 pub mod ugnsinf;
+
 use crate::network_registration::NetworkRegistration;
 use crate::network_registration::NetworkRegistrationAnswer;
 use crate::ugnsinf::GnssReport;
@@ -33,7 +34,8 @@ impl Urc {
             return UrcAnswer::Value(Urc::GnssReport(report));
         }
         match NetworkRegistration::from_checked(line) {
-            NetworkRegistrationAnswer::Value(registration) => UrcAnswer::Value(Urc::NetworkRegistration(registration)),
+            NetworkRegistrationAnswer::Value(registration) =>
+                UrcAnswer::Value(Urc::NetworkRegistration(registration)),
             NetworkRegistrationAnswer::Refused(k) => UrcAnswer::Refused(k),
         }
     }
