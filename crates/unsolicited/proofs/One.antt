@@ -1,6 +1,6 @@
 -- No second answer meets a contract of this crate: what an answer says can be taken back.
 use mathlib.Core.Path.{_≡_, refl, ap}
-use mathlib.Core.List.{List, [], _∷_}
+use mathlib.Core.List.{[], _∷_}
 use mathlib.Core.Option.{Option, none, some}
 use Prim.Native.Nat.{ℕ}
 use lib.ListN.{getD}
@@ -15,7 +15,7 @@ use Rattle.unsolicited.specs.Date.{Date}
 use Rattle.unsolicited.specs.Gnss as G
 use Rattle.unsolicited.specs.Registration.{Registration}
 use Rattle.unsolicited.specs.Urc as U
-use Rattle.unsolicited.specs.says.Gnss.{dateSays, optionSays, fixSays, reportSays}
+use Rattle.unsolicited.specs.says.Gnss.{dateOptionSays, reportSays}
 use Rattle.unsolicited.specs.says.Gnss.{says as reportAnswerSays}
 use Rattle.unsolicited.specs.says.Registration.{statusNumber, registrationSays}
 use Rattle.unsolicited.specs.says.Registration.{says as registrationAnswerSays}
@@ -86,12 +86,12 @@ one-registration = one-answer registrationAnswerSays (answer N.Value N.Refused n
 abbrev dateTime : Date → DateTime
 dateTime d = record { year = d .year; month = d .month; day = d .day; hour = d .hour; minute = d .minute; second = d .second }
 
-back-date : (r : OptionDateTime) → option Some None dateTime (optionSays r) ≡ r
+back-date : (r : OptionDateTime) → option Some None dateTime (dateOptionSays r) ≡ r
 back-date (Some d) = refl
 back-date None = refl
 
-pub one-date : (a b : OptionDateTime) (p : Option Date) → optionSays a ≡ p → optionSays b ≡ p → a ≡ b
-one-date = one-answer optionSays (option Some None dateTime) back-date
+pub one-date : (a b : OptionDateTime) (p : Option Date) → dateOptionSays a ≡ p → dateOptionSays b ≡ p → a ≡ b
+one-date = one-answer dateOptionSays (option Some None dateTime) back-date
 
 -- reports
 abbrev gnssFix : G.Fix → GnssFix

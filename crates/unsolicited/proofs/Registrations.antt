@@ -1,9 +1,9 @@
 -- The registration readers: the status by its number, the count of fields, and that they refuse with 3 alone. Assumes nothing.
-use mathlib.Core.Path.{_≡_, refl, ap, sym, _∙_}
+use mathlib.Core.Path.{_≡_, refl, sym, _∙_}
 use mathlib.Core.Bool.{Bool, true, false, cond, _&&_, _||_}
 use mathlib.Core.List.{List, [], _∷_}
 use mathlib.Core.Option.{Option}
-use Prim.Native.Nat.{ℕ, _≤_, _<_, _-_, _^_, suc}
+use Prim.Native.Nat.{ℕ, _≤_, _<_, _-_}
 use native.Mathlib.Omega.{arith}
 use lib.Dec.{eqb, leb}
 use lib.IntN.{ℤ, pos, negsuc}
@@ -16,6 +16,7 @@ use Rattle.text.specs.Part.{among}
 use Rattle.text.specs.Field.{fields, nth}
 use Rattle.text.specs.Number.{signed}
 use Rattle.text.specs.Reading.{Reading, read, refused, only, either}
+use Rattle.text.proofs.Readings.{via}
 use Rattle.unsolicited.specs.Registration.{Registration, statusOf, registrationAt, registrationFields, cregText, cgregText, ceregStatus, ceregFields, ceregText, registrationText}
 use Rattle.unsolicited.proofs.Trials.{Plain, plain-only, plain-either, plain-need, plain-first, plain-none}
 
@@ -62,10 +63,6 @@ module _ {A : Type 0} (t : Bool) where
 
 pub ruleset counted = (listed-here, listed-later, listed, unlisted, only-listed, only-unlisted)
 
--- what the code has of the rest t, said of the line s
-pub fields-via : (l : List ℕ) (q : Reading Registration) (t s : List ℕ) → q ≡ registrationFields l (fields 44 t) → t ≡ s → q ≡ registrationFields l (fields 44 s)
-fields-via l q t s e h = e ∙ ap (λ (u : List ℕ). registrationFields l (fields 44 u)) h
-
 -- +CREG lists 5 as the most
 five-twice : (n : ℕ) → among (2 ∷ 5 ∷ 5 ∷ []) n ≡ among (2 ∷ 5 ∷ []) n
 five-twice n = go (eqb n 2) (eqb n 5)
@@ -77,7 +74,7 @@ five-twice n = go (eqb n 2) (eqb n 5)
 
 pub fields-five : (q : Reading Registration) (t s : List ℕ) → q ≡ registrationFields (2 ∷ 5 ∷ 5 ∷ []) (fields 44 t) → t ≡ s → q ≡ registrationFields (2 ∷ 5 ∷ []) (fields 44 s)
 unfolding registrationFields
-fields-five q t s e h = rw (← five-twice (length (fields 44 s))) (fields-via (2 ∷ 5 ∷ 5 ∷ []) q t s e h)
+fields-five q t s e h = rw (← five-twice (length (fields 44 s))) (via (λ (l : List ℕ). registrationFields (2 ∷ 5 ∷ 5 ∷ []) (fields 44 l)) q t s e h)
 
 -- +CEREG: what the code has as o of the field that it chose, of k fields of which f is the first and g the second
 module _ (o : Option ℤ) (k : ℕ) (t : List ℕ) (count : k ≡ length (fields 44 t)) where
@@ -93,9 +90,6 @@ module _ (o : Option ℤ) (k : ℕ) (t : List ℕ) (count : k ≡ length (fields
     pub by-first : (f : List ℕ) → x ≡ false → f ≡ nth 0 (fields 44 t) → o ≡ signed 10 2147483647 f → o ≡ signed 10 2147483647 (ceregStatus (fields 44 t))
     unfolding ceregStatus
     by-first f h q e = rw (sym count, lt-ltb 1 k (omega arith), ← second, ← digits, h, ← q) e
-
-pub cereg-via : (q : Reading Registration) (t s : List ℕ) → q ≡ ceregFields (fields 44 t) → t ≡ s → q ≡ ceregFields (fields 44 s)
-cereg-via q t s e h = e ∙ ap (λ (u : List ℕ). ceregFields (fields 44 u)) h
 
 pub registry : (a x : ℕ) (b y c z : Option ℕ) → a ≡ x → b ≡ y → c ≡ z
     → _≡_ {A = Reading Registration} (read (record { status = a; lac = b; ci = c })) (read (record { status = x; lac = y; ci = z }))

@@ -1,5 +1,5 @@
 -- The parts of +UGNSINF: where its fields begin, what may be empty, and what the code's answers pick. Assumes nothing.
-use mathlib.Core.Path.{_≡_, refl, ap, sym, _∙_, subst}
+use mathlib.Core.Path.{_≡_, ap, sym, _∙_}
 use mathlib.Core.Bool.{false, cond}
 use mathlib.Core.List.{List, [], _∷_}
 use mathlib.Core.Option.{Option, none, some, bind}
@@ -7,24 +7,22 @@ use Prim.Native.Nat.{ℕ, zero, suc, _+_, _-_, _≤_, _<_}
 use native.Mathlib.Numerals.{add-one}
 use native.Mathlib.Omega.{arith}
 use lib.Dec.{leb}
-use lib.Ieee.{Float, binary32, ofBits, ofFields, fin}
+use lib.Ieee.{binary32, ofBits, ofFields, fin}
 use lib.IntN.{pos}
-use lib.ListN.{length, getD, set, drop, take}
+use lib.ListN.{length, getD, set, drop}
 use lib.Seq.{length-take-le, getD-set-same, getD-set-other}
 use borrow.Author.Count.{below-more}
 use borrow.Author.Tests.{eq-eqb, ne-eqb, le-leb, lt-leb}
 use Rattle.text.specs.Bytes.{indexOf}
 use Rattle.text.specs.Part.{partOf}
 use Rattle.text.specs.Field.{fields, nth, placeOf}
-use Rattle.text.specs.Reading.{Reading, read, refused, need}
-use Rattle.text.proofs.Readings.{need-so, need-not}
+use Rattle.text.specs.Reading.{Reading, read}
 use Rattle.text.proofs.Parts.{index-le}
 use Rattle.text.proofs.Fields.{field-bytes, field-in}
 use Rattle.numeral.specs.Numeral.{floatOf}
-use Rattle.unsolicited.specs.Places.{Places}
 use Rattle.unsolicited.specs.Date.{Date, dateOf}
 use Rattle.unsolicited.specs.Gnss.{Position, Motion, Dilution, Satellites, Report, noFix, fix, orZero, floatOrZero, dateOrZero, fixOf, ugnsinfFields, ugnsinfText}
-use Rattle.unsolicited.specs.says.Gnss.{dateSays, optionSays}
+use Rattle.unsolicited.specs.says.Gnss.{dateSays, dateOptionSays}
 use Rattle.unsolicited.specs.declared.ugnsinf.DateTime.{DateTime}
 use Rattle.unsolicited.specs.declared.ugnsinf.OptionDateTime.{OptionDateTime}
 use Rattle.unsolicited.specs.declared.ugnsinf.OptionDateTime.the-variants.{None, Some}
@@ -41,16 +39,6 @@ module _ {R A B : Type 0} (f : R → Option A) where
     pub unbound : (o : Option A) (g : A → Option B) (r : R) → f r ≡ o → r ≡ con → none ≡ bind o g
     unfolding bind
     unbound o g r h e = rw (sym h ∙ ap f e ∙ is)
-
--- the same where a reading goes on
-module _ {R A : Type 0} (f : R → Option A) where
-  module _ {W : Type 0} (con : W → R) (val : W → A) (is : (w : W) → f (con w) ≡ some (val w)) where
-    pub needed : (o : Option A) (g : A → Reading Report) (r : R) (w : W) (q : Reading Report) → f r ≡ o → r ≡ con w → q ≡ g (val w) → q ≡ need o g
-    needed o g r w q h e p = need-so o (val w) g q (sym (is w) ∙ ap f (sym e) ∙ h) p
-
-  module _ (con : R) (is : f con ≡ none) where
-    pub lost : (o : Option A) (g : A → Reading Report) (r : R) → f r ≡ o → r ≡ con → refused 3 ≡ need o g
-    lost o g r h e = need-not o g (sym is ∙ ap f (sym e) ∙ h)
 
 pub without-fix : (o p : Option ℕ) → o ≡ p → _≡_ {A = Reading Report} (read (noFix o)) (read (noFix p))
 without-fix o p e = rw e
@@ -69,7 +57,7 @@ module _ {A : Type 0} (t : List ℕ) (o : Option A) where
   long-enough q h p = rw (le-leb 14 (length t) h) p
 
 -- the date that was read, or all zeros
-module _ (t s : List ℕ) (r : OptionDateTime) (says : optionSays r ≡ dateOf t) (is : t ≡ s) where
+module _ (t s : List ℕ) (r : OptionDateTime) (says : dateOptionSays r ≡ dateOf t) (is : t ≡ s) where
   pub date-read : (d : DateTime) → r ≡ Some d → dateSays d ≡ dateOrZero s
   unfolding dateOrZero
   date-read d e = rw (← is, ← says, e)
@@ -77,10 +65,6 @@ module _ (t s : List ℕ) (r : OptionDateTime) (says : optionSays r ≡ dateOf t
   pub date-zero : r ≡ None → dateSays (record { year = 0; month = 0; day = 0; hour = 0; minute = 0; second = 0 }) ≡ dateOrZero s
   unfolding dateOrZero
   date-zero e = rw (← is, ← says, e)
-
--- what the code has of the rest t, said of the line s
-pub report-via : (q : Reading Report) (t s : List ℕ) → q ≡ ugnsinfFields (fields 44 t) → t ≡ s → q ≡ ugnsinfFields (fields 44 s)
-report-via q t s e h = e ∙ ap (λ (u : List ℕ). ugnsinfFields (fields 44 u)) h
 
 -- a field that may be empty, which the code has under the name t
 module _ {A : Type 0} (z : A) (reads : List ℕ → Option A) (t s : List ℕ) (is : t ≡ s) where

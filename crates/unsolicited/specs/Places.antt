@@ -5,6 +5,6 @@ use mathlib.Core.List.{List}
 use lib.ListN.{getD}
 use Rattle.text.specs.Field.{fields, placeOf}
 
--- entry n of ps is the place of field n of s, up to n fields
+-- ps says where each of the 21 fields of s begins
 pub record Places (ps s : List ℕ) : Type 0 where
   pub place : (n : ℕ) → n < 21 → getD ps n 0 ≡ placeOf n (fields 44 s)

@@ -20,7 +20,7 @@ ghost use Rattle.numeral.specs.Told.{told};
 ghost use Rattle.unsolicited.specs.Date.{yearOf, pairAt, dateOf};
 ghost use Rattle.unsolicited.specs.Places.{Places};
 ghost use Rattle.unsolicited.specs.Gnss.{floatOrZero, countOrZero, dateOrZero, positionOf, motionOf, dilutionOf, satellitesOf, fixOf, ugnsinfFields, ugnsinfText};
-ghost use Rattle.unsolicited.specs.says.Gnss.{dateSays, optionSays, positionsSay, motionsSay, dilutionsSay, satellitesSay, says};
+ghost use Rattle.unsolicited.specs.says.Gnss.{dateSays, dateOptionSays, positionOptionSays, motionOptionSays, dilutionOptionSays, satellitesOptionSays, says};
 
 pub struct DateTime {
     pub year: u16,
@@ -53,7 +53,7 @@ fn pair(s: &[u8], at: usize) -> ParsedU8
 impl DateTime {
     // A cut inside a character leaves a byte that is no digit.
     pub fn new(time_string: &[u8]) -> OptionDateTime
-        ensures { λ r. ⌜ optionSays r ≡ dateOf (now («time_string» .entry)) ⌝ }
+        ensures { λ r. ⌜ dateOptionSays r ≡ dateOf (now («time_string» .entry)) ⌝ }
     {
         if time_string.len() < 14 {
             return OptionDateTime::None;
@@ -204,7 +204,7 @@ enum OptionPosition {
 
 fn position_of(rest: &[u8], places: &[usize; 21]) -> OptionPosition
     requires { ⌜ Places (now places) (now rest) ⌝ }
-    ensures { λ r. ⌜ positionsSay r ≡ positionOf (fields 44 (now (rest .entry))) ⌝ }
+    ensures { λ r. ⌜ positionOptionSays r ≡ positionOf (fields 44 (now (rest .entry))) ⌝ }
 {
     let Numeral::Value(latitude) = float_at(rest, places, 3) else {
         return OptionPosition::None;
@@ -234,7 +234,7 @@ enum OptionMotion {
 
 fn motion_of(rest: &[u8], places: &[usize; 21]) -> OptionMotion
     requires { ⌜ Places (now places) (now rest) ⌝ }
-    ensures { λ r. ⌜ motionsSay r ≡ motionOf (fields 44 (now (rest .entry))) ⌝ }
+    ensures { λ r. ⌜ motionOptionSays r ≡ motionOf (fields 44 (now (rest .entry))) ⌝ }
 {
     let Numeral::Value(speed) = float_or_zero(rest, places, 6) else {
         return OptionMotion::None;
@@ -258,7 +258,7 @@ enum OptionDilution {
 
 fn dilution_of(rest: &[u8], places: &[usize; 21]) -> OptionDilution
     requires { ⌜ Places (now places) (now rest) ⌝ }
-    ensures { λ r. ⌜ dilutionsSay r ≡ dilutionOf (fields 44 (now (rest .entry))) ⌝ }
+    ensures { λ r. ⌜ dilutionOptionSays r ≡ dilutionOf (fields 44 (now (rest .entry))) ⌝ }
 {
     let Numeral::Value(hdop) = float_or_zero(rest, places, 10) else {
         return OptionDilution::None;
@@ -286,7 +286,7 @@ enum OptionSatellites {
 
 fn satellites_of(rest: &[u8], places: &[usize; 21]) -> OptionSatellites
     requires { ⌜ Places (now places) (now rest) ⌝ }
-    ensures { λ r. ⌜ satellitesSay r ≡ satellitesOf (fields 44 (now (rest .entry))) ⌝ }
+    ensures { λ r. ⌜ satellitesOptionSays r ≡ satellitesOf (fields 44 (now (rest .entry))) ⌝ }
 {
     let ParsedU32::Is(in_view) = count_or_zero(rest, places, 14) else {
         return OptionSatellites::None;

@@ -28,37 +28,37 @@ use Rattle.unsolicited.specs.declared.ugnsinf.GnssReportAnswer.the-varia
 abbrev pub dateSays : DateTime → Date
 dateSays d = record { year = d .year; month = d .month; day = d .day; hour = d .hour; minute = d .minute; second = d .second }
 
-abbrev pub optionSays : OptionDateTime → Option Date
-optionSays None = none
-optionSays (Some d) = some (dateSays d)
+abbrev pub dateOptionSays : OptionDateTime → Option Date
+dateOptionSays None = none
+dateOptionSays (Some d) = some (dateSays d)
 
 abbrev pub positionSays : Position → paper.Position
 positionSays p = record { latitude = p .latitude; longitude = p .longitude; altitude = p .altitude }
 
-abbrev pub positionsSay : OptionPosition → Option paper.Position
-positionsSay P.None = none
-positionsSay (P.Some p) = some (positionSays p)
+abbrev pub positionOptionSays : OptionPosition → Option paper.Position
+positionOptionSays P.None = none
+positionOptionSays (P.Some p) = some (positionSays p)
 
 abbrev pub motionSays : Motion → paper.Motion
 motionSays m = record { speed = m .speed; course = m .course }
 
-abbrev pub motionsSay : OptionMotion → Option paper.Motion
-motionsSay M.None = none
-motionsSay (M.Some m) = some (motionSays m)
+abbrev pub motionOptionSays : OptionMotion → Option paper.Motion
+motionOptionSays M.None = none
+motionOptionSays (M.Some m) = some (motionSays m)
 
 abbrev pub dilutionSays : Dilution → paper.Dilution
 dilutionSays d = record { hdop = d .hdop; pdop = d .pdop; vdop = d .vdop }
 
-abbrev pub dilutionsSay : OptionDilution → Option paper.Dilution
-dilutionsSay D.None = none
-dilutionsSay (D.Some d) = some (dilutionSays d)
+abbrev pub dilutionOptionSays : OptionDilution → Option paper.Dilution
+dilutionOptionSays D.None = none
+dilutionOptionSays (D.Some d) = some (dilutionSays d)
 
-abbrev pub satelliteSays : Satellites → paper.Satellites
-satelliteSays s = record { gpsInView = s .«in_view»; gnssUsed = s .«gnss_used»; glonassUsed = s .«glonass_used»; signalNoiseRatio = s .noise }
+abbrev pub satellitesSay : Satellites → paper.Satellites
+satellitesSay s = record { gpsInView = s .«in_view»; gnssUsed = s .«gnss_used»; glonassUsed = s .«glonass_used»; signalNoiseRatio = s .noise }
 
-abbrev pub satellitesSay : OptionSatellites → Option paper.Satellites
-satellitesSay S.None = none
-satellitesSay (S.Some s) = some (satelliteSays s)
+abbrev pub satellitesOptionSays : OptionSatellites → Option paper.Satellites
+satellitesOptionSays S.None = none
+satellitesOptionSays (S.Some s) = some (satellitesSay s)
 
 abbrev pub fixSays : GnssFix → paper.Fix
 fixSays f =

@@ -3,13 +3,17 @@ use borrow.Author.Needs.{needs}
 use Rattle.unsolicited.proofs.ugnsinf.gnss_fix.Statement.{statement}
 use Rattle.unsolicited.proofs.ugnsinf.gnss_fix.Tie as tie
 use mathlib.Core.Path.{refl}
-use Rattle.unsolicited.specs.Gnss.{fixOf}
-use Rattle.unsolicited.specs.says.Gnss.{positionSays, positionsSay, motionSays, motionsSay, dilutionSays, dilutionsSay, satelliteSays, satellitesSay}
+use Rattle.unsolicited.specs.Gnss.{fixOf, Report, positionOf, motionOf, dilutionOf, satellitesOf}
+use Rattle.unsolicited.specs.says.Gnss.{positionSays, positionOptionSays, motionSays, motionOptionSays, dilutionSays, dilutionOptionSays, satellitesOptionSays}
 use Rattle.unsolicited.specs.declared.ugnsinf.OptionPosition.the-variants as P
 use Rattle.unsolicited.specs.declared.ugnsinf.OptionMotion.the-variants as M
 use Rattle.unsolicited.specs.declared.ugnsinf.OptionDilution.the-variants as D
 use Rattle.unsolicited.specs.declared.ugnsinf.OptionSatellites.the-variants as S
-use Rattle.unsolicited.proofs.Reports.{needed, lost, fixed}
+use Rattle.unsolicited.proofs.Reports.{fixed}
+use mathlib.Core.List.{List}
+use Prim.Native.Nat.{ℕ}
+use Rattle.text.specs.Field.{fields}
+use Rattle.text.proofs.Readings.{got, lacked, need-so}
 
 position-of-requires : tie.Need-position-of-requires
 position-of-requires c κs = search needs
@@ -22,7 +26,7 @@ enum-told c = search needs
 
 returns : tie.Need-returns
 unfolding fixOf
-returns c = search (lost positionsSay P.None refl)
+returns c = search (lacked {B = Report} positionOptionSays (λ (t : List ℕ). positionOf (fields 44 t)) P.None refl)
 
 motion-of-requires : tie.Need-motion-of-requires
 motion-of-requires c κs = search needs
@@ -35,7 +39,7 @@ enum-told-2 c = search needs
 
 returns-2 : tie.Need-returns-2
 unfolding fixOf
-returns-2 c = search (needed positionsSay P.Some positionSays (λ x. refl), lost motionsSay M.None refl)
+returns-2 c = search (got {B = Report} positionOptionSays (λ (t : List ℕ). positionOf (fields 44 t)) P.Some positionSays (λ x. refl), lacked {B = Report} motionOptionSays (λ (t : List ℕ). motionOf (fields 44 t)) M.None refl)
 
 dilution-of-requires : tie.Need-dilution-of-requires
 dilution-of-requires c κs = search needs
@@ -48,7 +52,7 @@ enum-told-3 c = search needs
 
 returns-3 : tie.Need-returns-3
 unfolding fixOf
-returns-3 c = search (needed positionsSay P.Some positionSays (λ x. refl), needed motionsSay M.Some motionSays (λ x. refl), lost dilutionsSay D.None refl)
+returns-3 c = search (got {B = Report} positionOptionSays (λ (t : List ℕ). positionOf (fields 44 t)) P.Some positionSays (λ x. refl), got {B = Report} motionOptionSays (λ (t : List ℕ). motionOf (fields 44 t)) M.Some motionSays (λ x. refl), lacked {B = Report} dilutionOptionSays (λ (t : List ℕ). dilutionOf (fields 44 t)) D.None refl)
 
 satellites-of-requires : tie.Need-satellites-of-requires
 satellites-of-requires c κs = search needs
@@ -61,7 +65,7 @@ enum-told-4 c = search needs
 
 returns-4 : tie.Need-returns-4
 unfolding fixOf
-returns-4 c = search (needed positionsSay P.Some positionSays (λ x. refl), needed motionsSay M.Some motionSays (λ x. refl), needed dilutionsSay D.Some dilutionSays (λ x. refl), lost satellitesSay S.None refl)
+returns-4 c = search (got {B = Report} positionOptionSays (λ (t : List ℕ). positionOf (fields 44 t)) P.Some positionSays (λ x. refl), got {B = Report} motionOptionSays (λ (t : List ℕ). motionOf (fields 44 t)) M.Some motionSays (λ x. refl), got {B = Report} dilutionOptionSays (λ (t : List ℕ). dilutionOf (fields 44 t)) D.Some dilutionSays (λ x. refl), lacked {B = Report} satellitesOptionSays (λ (t : List ℕ). satellitesOf (fields 44 t)) S.None refl)
 
 date-or-zero-requires : tie.Need-date-or-zero-requires
 date-or-zero-requires c κs = search needs
@@ -72,10 +76,10 @@ returns-5 c = let s = c .before .before in
     let d = s .before .before .before .before in
     let m = d .before .before .before .before in
     let p = m .before .before .before .before in
-    needed positionsSay P.Some positionSays (λ x. refl) _ _ _ _ _ (p .before .before .position-of .ensures) (p .p .given .1)
-    (needed motionsSay M.Some motionSays (λ x. refl) _ _ _ _ _ (m .before .before .motion-of .ensures) (m .m .given .1)
-    (needed dilutionsSay D.Some dilutionSays (λ x. refl) _ _ _ _ _ (d .before .before .dilution-of .ensures) (d .d .given .1)
-    (needed satellitesSay S.Some satelliteSays (λ x. refl) _ _ _ _ _ (s .before .before .satellites-of .ensures) (s .s .given .1)
+    need-so _ _ _ _ (rw (p .p .given .1) at (p .before .before .position-of .ensures))
+    (need-so _ _ _ _ (rw (m .m .given .1) at (m .before .before .motion-of .ensures))
+    (need-so _ _ _ _ (rw (d .d .given .1) at (d .before .before .dilution-of .ensures))
+    (need-so _ _ _ _ (rw (s .s .given .1) at (s .before .before .satellites-of .ensures))
     (fixed _ _ _ _ _ _ (c .date-or-zero .ensures)))))
 
 pub gnss-fix-spec : {M : Type 1} → statement M

@@ -6,11 +6,8 @@ use Prim.Native.Nat.{ℕ, _≤_, _<_, _-_}
 use native.Mathlib.Omega.{arith}
 use borrow.Author.Needs.{needs}
 use borrow.Author.Count.{below-none}
-use lib.ListN.{length, getD}
-use Rattle.text.specs.Field.{fields, placeOf}
-use Rattle.text.specs.Field.{fields}
-use mathlib.Core.Path.{_≡_, refl}
 use lib.ListN.{length, getD, length-set}
+use Rattle.text.specs.Field.{fields, placeOf}
 use Rattle.unsolicited.proofs.Reports.{next-at, end-in, one-more}
 
 abbrev Inv-loop : tie.InvT-loop

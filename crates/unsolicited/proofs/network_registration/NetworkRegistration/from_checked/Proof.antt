@@ -1,15 +1,11 @@
 -- The three in order of trial: each refuses with 3 alone.
 use borrow.Author.Needs.{needs}
-use Rattle.unsolicited.proofs.network_registration.NetworkRegistration.from_checked.Statement.{
-  statement,
-}
+use Rattle.unsolicited.proofs.network_registration.NetworkRegistration.from_checked.Statement.{statement}
 use Rattle.unsolicited.proofs.network_registration.NetworkRegistration.from_checked.Tie as tie
 use Rattle.unsolicited.specs.Registration.{registrationText}
-use Rattle.unsolicited.proofs.Trials.{first-is, first-else}
-use Rattle.unsolicited.proofs.Registrations.{plain-creg}
-use mathlib.Core.Path.{_∙_}
 use Rattle.unsolicited.proofs.Trials.{first-is, first-else, first-last}
 use Rattle.unsolicited.proofs.Registrations.{plain-creg, plain-cgreg, plain-cereg}
+use mathlib.Core.Path.{_∙_}
 
 from-checked-requires : tie.Need-from-checked-requires
 from-checked-requires c κs = search needs

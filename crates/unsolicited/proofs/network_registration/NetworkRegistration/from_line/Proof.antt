@@ -1,7 +1,5 @@
 use borrow.Author.Needs.{needs}
-use Rattle.unsolicited.proofs.network_registration.NetworkRegistration.from_line.Statement.{
-  statement,
-}
+use Rattle.unsolicited.proofs.network_registration.NetworkRegistration.from_line.Statement.{statement}
 use Rattle.unsolicited.proofs.network_registration.NetworkRegistration.from_line.Tie as tie
 use Rattle.text.proofs.LineLaws.{lines}
 

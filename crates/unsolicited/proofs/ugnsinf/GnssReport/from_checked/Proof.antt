@@ -1,9 +1,11 @@
 use borrow.Author.Needs.{needs}
 use Rattle.unsolicited.proofs.ugnsinf.GnssReport.from_checked.Statement.{statement}
 use Rattle.unsolicited.proofs.ugnsinf.GnssReport.from_checked.Tie as tie
-use Rattle.text.proofs.Readings.{reader}
-use Rattle.unsolicited.specs.Gnss.{ugnsinfText}
-use Rattle.unsolicited.proofs.Reports.{report-via}
+use Rattle.text.proofs.Readings.{reader, via}
+use mathlib.Core.List.{List}
+use Prim.Native.Nat.{ℕ}
+use Rattle.text.specs.Field.{fields}
+use Rattle.unsolicited.specs.Gnss.{ugnsinfFields, ugnsinfText}
 
 slice-aggregate-starts-with : tie.Need-slice-aggregate-starts-with
 slice-aggregate-starts-with c = search needs
@@ -23,7 +25,7 @@ gnss-report-requires c κs = search needs
 
 returns-2 : tie.Need-returns-2
 unfolding ugnsinfText
-returns-2 c = search (reader, report-via)
+returns-2 c = search (reader, via (λ (t : List ℕ). ugnsinfFields (fields 44 t)))
 
 pub from-checked-spec : {M : Type 1} → statement M
 from-checked-spec =
