@@ -16,7 +16,7 @@ use Rattle.at_command.specs.Cops.{Name, inLine, inFallback, Operator}
 use Rattle.at_command.specs.Cpsi.{System}
 use Rattle.at_command.specs.Generic.{Fault, generic, cme, cms}
 use Rattle.at_command.specs.Httptofs.{Download}
-use Rattle.at_command.specs.Response.{Response, ok, error, prompt, closeOk, iccid, system, operator, time, download, imei, format, message}
+use Rattle.at_command.specs.Response.{Response, ok, error, prompt, closeOk, iccid, signal, system, operator, time, download, imei, format, message}
 use Rattle.at_command.specs.says.Ccid as Ccid
 use Rattle.at_command.specs.says.Cmgf as Cmgf
 use Rattle.at_command.specs.says.Cmgr as Cmgr
@@ -46,6 +46,7 @@ use Rattle.at_command.specs.declared.generic_response.SimError.{SimError
 use Rattle.at_command.specs.declared.generic_response.WritePrompt.{WritePrompt}
 use Rattle.at_command.specs.declared.generic_response.CloseOk.{CloseOk}
 use Rattle.at_command.specs.declared.ccid.Iccid.{Iccid}
+use Rattle.at_command.specs.declared.csq.SignalQuality.{SignalQuality}
 use Rattle.at_command.specs.declared.cpsi.SystemInfo.{SystemInfo}
 use Rattle.at_command.specs.declared.cops.OperatorInfo.{OperatorInfo}
 use Rattle.at_command.specs.declared.cntp.NetworkTime.{NetworkTime}
@@ -87,6 +88,7 @@ use Rattle.at_command.specs.declared.cops.OperatorName.{OperatorName}
 use Rattle.at_command.specs.declared.cops.OperatorName.the-variants as N
 use Rattle.at_command.specs.declared.httptofs.Success.{Success}
 use Rattle.at_command.specs.declared.httptofs.Success.the-variants as S
+use Rattle.at_command.proofs.csq.One.{signalOf, signal-back}
 
 -- the answer that says a reading, given the value that says what was read
 abbrev answer : {R W P : Type 0} → (W → R) → (ℕ → R) → (P → W) → Reading P → R
@@ -331,6 +333,7 @@ codeOf (error x) = R.Error (faultOf x)
 codeOf (prompt x) = R.WritePrompt (promptOf x)
 codeOf (closeOk x) = R.CloseOk (closeOf x)
 codeOf (iccid x) = R.Iccid (cardOf x)
+codeOf (signal x) = R.SignalQuality (signalOf x)
 codeOf (system x) = R.SystemInfo (systemOf x)
 codeOf (operator x) = R.OperatorInfo (operatorOf x)
 codeOf (time x) = R.NetworkTime (timeOf x)
@@ -345,6 +348,7 @@ code-back (R.Error x) = ap R.Error (fault-back x)
 code-back (R.WritePrompt x) = refl
 code-back (R.CloseOk x) = refl
 code-back (R.Iccid x) = refl
+code-back (R.SignalQuality x) = ap R.SignalQuality (signal-back x)
 code-back (R.SystemInfo x) = ap R.SystemInfo (system-back x)
 code-back (R.OperatorInfo x) = ap R.OperatorInfo (operator-back x)
 code-back (R.NetworkTime x) = ap R.NetworkTime (time-back x)

@@ -4,6 +4,7 @@ pub mod Cmgr
 pub mod Cntp
 pub mod Cops
 pub mod Cpsi
+pub mod Csq
 pub mod Generic
 pub mod Gsn
 pub mod Httptofs

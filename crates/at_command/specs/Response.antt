@@ -9,7 +9,8 @@ use Rattle.at_command.specs.Cmgr.{cmgrText}
 use Rattle.at_command.specs.Cntp.{NetTime, cntpText}
 use Rattle.at_command.specs.Cops.{Operator, copsText}
 use Rattle.at_command.specs.Cpsi.{System, cpsiText}
-use Rattle.at_command.specs.Kind.{Kind, genericOk, simError, writePrompt, systemInfo, operatorInfo, networkTime, downloadInfo, smsMessageFormat, smsMessage}
+use Rattle.at_command.specs.Csq.{Signal, csqText}
+use Rattle.at_command.specs.Kind.{Kind, genericOk, simError, writePrompt, signalQuality, systemInfo, operatorInfo, networkTime, downloadInfo, smsMessageFormat, smsMessage}
 use Rattle.at_command.specs.Kind as K
 use Rattle.at_command.specs.Generic.{Fault, okText, errorText, promptText, closeText}
 use Rattle.at_command.specs.Gsn.{imeiText}
@@ -22,6 +23,7 @@ pub data Response : Type 0 where
   prompt : Mark → Response
   closeOk : ℕ → Response
   iccid : Card → Response
+  signal : Signal → Response
   system : System → Response
   operator : Operator → Response
   time : NetTime → Response
@@ -37,6 +39,7 @@ kindOf (error x) = simError
 kindOf (prompt x) = writePrompt
 kindOf (closeOk x) = K.closeOk
 kindOf (iccid x) = K.iccid
+kindOf (signal x) = signalQuality
 kindOf (system x) = systemInfo
 kindOf (operator x) = operatorInfo
 kindOf (time x) = networkTime
@@ -58,6 +61,7 @@ lastReadings s =
 unfoldable pub laterReadings : List ℕ → List (Reading Response)
 laterReadings s =
     mapped iccid (iccidText s)
+    ∷ mapped signal (csqText s)
     ∷ mapped system (cpsiText s)
     ∷ mapped operator (copsText (bytes "0") (bytes "") s)
     ∷ lastReadings s

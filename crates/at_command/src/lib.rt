@@ -11,6 +11,8 @@ use cops::OperatorInfo;
 use cops::OperatorInfoAnswer;
 use cpsi::SystemInfo;
 use cpsi::SystemInfoAnswer;
+use csq::SignalQuality;
+use csq::SignalQualityAnswer;
 use generic_response::CloseOk;
 use generic_response::CloseOkAnswer;
 use generic_response::GenericOk;
@@ -52,6 +54,7 @@ pub enum ResponseCode {
     WritePrompt(WritePrompt),
     CloseOk(CloseOk),
     Iccid(Iccid),
+    SignalQuality(SignalQuality),
     SystemInfo(SystemInfo),
     OperatorInfo(OperatorInfo),
     NetworkTime(NetworkTime),
@@ -105,9 +108,14 @@ fn later_readers(line: &[u8], j: u8) -> ResponseCodeAnswer
         IccidAnswer::Value(v) => return ResponseCodeAnswer::Value(ResponseCode::Iccid(v)),
         IccidAnswer::Refused(k) => line::worse_of(j, k),
     };
+    let j2 = match SignalQuality::from_checked(line) {
+        SignalQualityAnswer::Value(v) =>
+            return ResponseCodeAnswer::Value(ResponseCode::SignalQuality(v)),
+        SignalQualityAnswer::Refused(k) => line::worse_of(j1, k),
+    };
     let j3 = match SystemInfo::from_checked(line) {
         SystemInfoAnswer::Value(v) => return ResponseCodeAnswer::Value(ResponseCode::SystemInfo(v)),
-        SystemInfoAnswer::Refused(k) => line::worse_of(j1, k),
+        SystemInfoAnswer::Refused(k) => line::worse_of(j2, k),
     };
     match OperatorInfo::from_checked(line, b"0", b"") {
         OperatorInfoAnswer::Value(v) => ResponseCodeAnswer::Value(ResponseCode::OperatorInfo(v)),
@@ -158,6 +166,7 @@ impl ResponseCode {
             ResponseCode::WritePrompt(_) => ResponseKind::WritePrompt,
             ResponseCode::CloseOk(_) => ResponseKind::CloseOk,
             ResponseCode::Iccid(_) => ResponseKind::Iccid,
+            ResponseCode::SignalQuality(_) => ResponseKind::SignalQuality,
             ResponseCode::SystemInfo(_) => ResponseKind::SystemInfo,
             ResponseCode::OperatorInfo(_) => ResponseKind::OperatorInfo,
             ResponseCode::NetworkTime(_) => ResponseKind::NetworkTime,

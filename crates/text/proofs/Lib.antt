@@ -1,3 +1,4 @@
+pub mod Below
 pub mod Digits
 pub mod Fields
 pub mod Finding

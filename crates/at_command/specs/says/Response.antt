@@ -1,13 +1,14 @@
 -- What the answers of the trial say on paper.
 use Prim.Native.Nat.{ℕ}
 use Rattle.text.specs.Reading.{Reading, read, refused}
-use Rattle.at_command.specs.Response.{Response, ok, error, prompt, closeOk, iccid, system, operator, time, download, imei, format, message}
+use Rattle.at_command.specs.Response.{Response, ok, error, prompt, closeOk, iccid, signal, system, operator, time, download, imei, format, message}
 use Rattle.at_command.specs.says.Ccid.{cardSays}
 use Rattle.at_command.specs.says.Cmgf.{formatNumber}
 use Rattle.at_command.specs.says.Cmgr.{messageSays}
 use Rattle.at_command.specs.says.Cntp.{infoSays as timeSays}
 use Rattle.at_command.specs.says.Cops.{infoSays as operatorSays}
 use Rattle.at_command.specs.says.Cpsi.{infoSays as systemSays}
+use Rattle.at_command.specs.says.Csq.{signalSays}
 use Rattle.at_command.specs.says.Generic.{okMark, faultSays, promptMark, connectionSays}
 use Rattle.at_command.specs.says.Gsn.{imeiSays}
 use Rattle.at_command.specs.says.Httptofs.{infoSays as downloadSays}
@@ -22,6 +23,7 @@ codeSays (R.Error v) = error (faultSays v)
 codeSays (R.WritePrompt v) = prompt (promptMark v)
 codeSays (R.CloseOk v) = closeOk (connectionSays v)
 codeSays (R.Iccid v) = iccid (cardSays v)
+codeSays (R.SignalQuality v) = signal (signalSays v)
 codeSays (R.SystemInfo v) = system (systemSays v)
 codeSays (R.OperatorInfo v) = operator (operatorSays v)
 codeSays (R.NetworkTime v) = time (timeSays v)

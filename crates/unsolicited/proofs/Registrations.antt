@@ -1,0 +1,123 @@
+-- The registration readers: the status by its number, the count of fields, and that they refuse with 3 alone. Assumes nothing.
+use mathlib.Core.Path.{_≡_, refl, ap, sym, _∙_}
+use mathlib.Core.Bool.{Bool, true, false, cond, _&&_, _||_}
+use mathlib.Core.List.{List, [], _∷_}
+use mathlib.Core.Option.{Option}
+use Prim.Native.Nat.{ℕ, _≤_, _<_, _-_, _^_, suc}
+use native.Mathlib.Omega.{arith}
+use lib.Dec.{eqb, leb}
+use lib.IntN.{ℤ, pos, negsuc}
+use lib.ListN.{length, drop}
+use mir.Syntax.{w32}
+use mir.Val.{SFits, ofZ}
+use borrow.Author.Tests.{eq-eqb, ne-eqb, leb-true, le-leb, lt-ltb, le-ltb}
+use Rattle.text.specs.Bytes.{allDigits}
+use Rattle.text.specs.Part.{among}
+use Rattle.text.specs.Field.{fields, nth}
+use Rattle.text.specs.Number.{signed}
+use Rattle.text.specs.Reading.{Reading, read, refused, only, either}
+use Rattle.unsolicited.specs.Registration.{Registration, statusOf, registrationAt, registrationFields, cregText, cgregText, ceregStatus, ceregFields, ceregText}
+use Rattle.unsolicited.proofs.Trials.{Plain, plain-only, plain-either, plain-need}
+
+-- `status_of` tests the bits of its number
+pub status-is : (k : ℕ) (z : ℤ) → SFits w32 z → ofZ w32 z ≡ k → 1 ≤ k → k ≤ 5 → k ≡ statusOf z
+unfolding statusOf
+status-is k (pos n) f e l h = rw (e, le-leb 1 k l, le-leb k 5 h)
+status-is k (negsuc n) f e l h = let b : n < 2147483648 = f .sfits in absurd (omega arith)
+
+pub status-other : (z : ℤ) → (ofZ w32 z ≡ 1 → ⊥) → (ofZ w32 z ≡ 2 → ⊥) → (ofZ w32 z ≡ 3 → ⊥) → (ofZ w32 z ≡ 4 → ⊥) → (ofZ w32 z ≡ 5 → ⊥) → 0 ≡ statusOf z
+unfolding statusOf
+status-other (negsuc n) a b c d e = refl
+status-other (pos n) a b c d e = go (leb 1 n) (leb n 5) (leb-true 1 n) (leb-true n 5)
+  where
+    go : (x y : Bool) → (x ≡ true → 1 ≤ n) → (y ≡ true → n ≤ 5) → 0 ≡ cond (x && y) n 0
+    go false y l h = refl
+    go true false l h = refl
+    go true true l h = let i = l refl in let j = h refl in absurd (omega arith)
+
+-- the count of fields, which the code has under the name k, is among so many
+module _ (k c n : ℕ) (e : k ≡ c) where
+  pub listed-here : (t : Bool) → k ≡ n → true ≡ eqb c n || t
+  listed-here t h = rw (eq-eqb c n (sym e ∙ h))
+
+  pub listed-later : (x t : Bool) → (k ≡ n → ⊥) → x ≡ t → x ≡ eqb c n || t
+  listed-later x t h p = rw (ne-eqb c n (λ z. h (e ∙ z))) p
+
+module _ {A : Type 0} (t : Bool) where
+  pub listed : (r u q : Reading A) → true ≡ t → q ≡ r → q ≡ either t r u
+  unfolding either
+  listed r u q e p = rw (sym e) p
+
+  pub unlisted : (r u q : Reading A) → false ≡ t → q ≡ u → q ≡ either t r u
+  unfolding either
+  unlisted r u q e p = rw (sym e) p
+
+  pub only-listed : (r q : Reading A) → true ≡ t → q ≡ r → q ≡ only t r
+  unfolding only
+  only-listed r q e p = rw (sym e) p
+
+  pub only-unlisted : (r : Reading A) → false ≡ t → refused 3 ≡ only t r
+  unfolding only
+  only-unlisted r e = rw (sym e)
+
+pub ruleset counted = (listed-here, listed-later, listed, unlisted, only-listed, only-unlisted)
+
+-- what the code has of the rest t, said of the line s
+pub fields-via : (l : List ℕ) (q : Reading Registration) (t s : List ℕ) → q ≡ registrationFields l (fields 44 t) → t ≡ s → q ≡ registrationFields l (fields 44 s)
+fields-via l q t s e h = e ∙ ap (λ (u : List ℕ). registrationFields l (fields 44 u)) h
+
+-- +CREG lists 5 as the most
+five-twice : (n : ℕ) → among (2 ∷ 5 ∷ 5 ∷ []) n ≡ among (2 ∷ 5 ∷ []) n
+five-twice n = go (eqb n 2) (eqb n 5)
+  where
+    go : (a b : Bool) → a || (b || (b || false)) ≡ a || (b || false)
+    go true b = refl
+    go false true = refl
+    go false false = refl
+
+pub fields-five : (q : Reading Registration) (t s : List ℕ) → q ≡ registrationFields (2 ∷ 5 ∷ 5 ∷ []) (fields 44 t) → t ≡ s → q ≡ registrationFields (2 ∷ 5 ∷ []) (fields 44 s)
+unfolding registrationFields
+fields-five q t s e h = rw (← five-twice (length (fields 44 s))) (fields-via (2 ∷ 5 ∷ 5 ∷ []) q t s e h)
+
+-- +CEREG: what the code has as o of the field that it chose, of k fields of which f is the first and g the second
+module _ (o : Option ℤ) (k : ℕ) (t : List ℕ) (count : k ≡ length (fields 44 t)) where
+  pub only-first : (f : List ℕ) → k < 2 → f ≡ nth 0 (fields 44 t) → o ≡ signed 10 2147483647 f → o ≡ signed 10 2147483647 (ceregStatus (fields 44 t))
+  unfolding ceregStatus
+  only-first f h q e = rw (sym count, le-ltb 1 k (omega arith), ← q) e
+
+  module _ (x : Bool) (g : List ℕ) (many : 2 ≤ k) (digits : x ≡ allDigits g) (second : g ≡ nth 1 (fields 44 t)) where
+    pub by-second : x ≡ true → o ≡ signed 10 2147483647 g → o ≡ signed 10 2147483647 (ceregStatus (fields 44 t))
+    unfolding ceregStatus
+    by-second h e = rw (sym count, lt-ltb 1 k (omega arith), ← second, ← digits, h) e
+
+    pub by-first : (f : List ℕ) → x ≡ false → f ≡ nth 0 (fields 44 t) → o ≡ signed 10 2147483647 f → o ≡ signed 10 2147483647 (ceregStatus (fields 44 t))
+    unfolding ceregStatus
+    by-first f h q e = rw (sym count, lt-ltb 1 k (omega arith), ← second, ← digits, h, ← q) e
+
+pub cereg-via : (q : Reading Registration) (t s : List ℕ) → q ≡ ceregFields (fields 44 t) → t ≡ s → q ≡ ceregFields (fields 44 s)
+cereg-via q t s e h = e ∙ ap (λ (u : List ℕ). ceregFields (fields 44 u)) h
+
+pub registry : (a x : ℕ) (b y c z : Option ℕ) → a ≡ x → b ≡ y → c ≡ z
+    → _≡_ {A = Reading Registration} (read (record { status = a; lac = b; ci = c })) (read (record { status = x; lac = y; ci = z }))
+registry a x b y c z e f g = rw (e, f, g)
+
+-- no refusal but 3
+plain-at : (n : ℕ) (fs : List (List ℕ)) → Plain (registrationAt n fs)
+unfolding registrationAt
+plain-at n fs = plain-need (signed 10 2147483647 (nth n fs)) _ (λ z. tt)
+
+plain-fields : (l : List ℕ) (fs : List (List ℕ)) → Plain (registrationFields l fs)
+unfolding registrationFields
+plain-fields l fs = plain-either _ _ _ (plain-at 0 fs) (plain-only _ _ (plain-at 1 fs))
+
+pub plain-creg : (s : List ℕ) → Plain (cregText s)
+unfolding cregText
+plain-creg s = plain-only _ _ (plain-fields _ (fields 44 (drop 7 s)))
+
+pub plain-cgreg : (s : List ℕ) → Plain (cgregText s)
+unfolding cgregText
+plain-cgreg s = plain-only _ _ (plain-fields _ (fields 44 (drop 8 s)))
+
+pub plain-cereg : (s : List ℕ) → Plain (ceregText s)
+unfolding ceregText ceregFields
+plain-cereg s = plain-only _ _ (plain-need _ _ (λ z. tt))

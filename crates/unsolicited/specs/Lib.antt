@@ -1,0 +1,5 @@
+pub mod Date
+pub mod Gnss
+pub mod Places
+pub mod Registration
+pub mod says

@@ -1,0 +1,2 @@
+pub mod Gnss
+pub mod Registration

@@ -1,0 +1,70 @@
+// +CEREG: the registration in the evolved packet system. Its fields cannot be told by their number, so the status alone is read.
+use crate::network_registration;
+use crate::network_registration::NetworkRegistration;
+use crate::network_registration::NetworkRegistrationAnswer;
+use text::bytes;
+use text::field;
+use text::line;
+use text::number;
+use text::number::ParsedI32;
+use text::number::ParsedU16;
+use text::number::ParsedU32;
+use text::part;
+ghost use mathlib.Core.Path.{_≡_};
+ghost use Rattle.text.specs.Field.{fields};
+ghost use Rattle.text.specs.Line.{checked};
+ghost use Rattle.text.specs.Number.{signed};
+ghost use Rattle.text.specs.says.Number.{saysI32};
+ghost use Rattle.unsolicited.specs.Registration.{ceregStatus, ceregFields, ceregText};
+ghost use Rattle.unsolicited.specs.says.Registration.{says};
+
+pub struct CEReg;
+
+// The number of the status.
+fn status_in(rest: &[u8]) -> ParsedI32
+    ensures { λ r. ⌜ saysI32 r ≡ signed 10 2147483647 (ceregStatus (fields 44 (now (rest .entry)))) ⌝ }
+{
+    let first = field::field(rest, b',', 0);
+    if field::field_count(rest, b',') < 2 {
+        return number::parse_i32(first);
+    }
+    let second = field::field(rest, b',', 1);
+    if bytes::all_digits(second) {
+        return number::parse_i32(second);
+    }
+    number::parse_i32(first)
+}
+
+fn registration(rest: &[u8]) -> NetworkRegistrationAnswer
+    ensures { λ r. ⌜ says r ≡ ceregFields (fields 44 (now (rest .entry))) ⌝ }
+{
+    let ParsedI32::Is(status) = status_in(rest) else {
+        return NetworkRegistrationAnswer::Refused(3);
+    };
+    NetworkRegistrationAnswer::Value(NetworkRegistration {
+        status: network_registration::status_of(status),
+        lac: ParsedU16::Not,
+        ci: ParsedU32::Not,
+    })
+}
+
+impl CEReg {
+    pub(crate) fn from_checked(line: &[u8]) -> NetworkRegistrationAnswer
+        ensures { λ r. ⌜ says r ≡ ceregText (now (line .entry)) ⌝ }
+    {
+        if !bytes::starts_with(line, b"+CEREG: ") {
+            return NetworkRegistrationAnswer::Refused(3);
+        }
+        registration(part::skip(line, 8))
+    }
+
+    pub fn from_line(line: &[u8]) -> NetworkRegistrationAnswer
+        ensures { λ r. ⌜ says r ≡ checked ceregText (now (line .entry)) ⌝ }
+    {
+        let k = line::check_line(line);
+        if k != 0 {
+            return NetworkRegistrationAnswer::Refused(k);
+        }
+        CEReg::from_checked(line)
+    }
+}
