@@ -1,3 +1,6 @@
+pub mod Lines
+pub mod One
+pub mod Prefixes
 pub mod Registrations
 pub mod Reports
 pub mod Trials

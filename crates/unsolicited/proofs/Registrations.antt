@@ -16,8 +16,8 @@ use Rattle.text.specs.Part.{among}
 use Rattle.text.specs.Field.{fields, nth}
 use Rattle.text.specs.Number.{signed}
 use Rattle.text.specs.Reading.{Reading, read, refused, only, either}
-use Rattle.unsolicited.specs.Registration.{Registration, statusOf, registrationAt, registrationFields, cregText, cgregText, ceregStatus, ceregFields, ceregText}
-use Rattle.unsolicited.proofs.Trials.{Plain, plain-only, plain-either, plain-need}
+use Rattle.unsolicited.specs.Registration.{Registration, statusOf, registrationAt, registrationFields, cregText, cgregText, ceregStatus, ceregFields, ceregText, registrationText}
+use Rattle.unsolicited.proofs.Trials.{Plain, plain-only, plain-either, plain-need, plain-first, plain-none}
 
 -- `status_of` tests the bits of its number
 pub status-is : (k : ℕ) (z : ℤ) → SFits w32 z → ofZ w32 z ≡ k → 1 ≤ k → k ≤ 5 → k ≡ statusOf z
@@ -121,3 +121,7 @@ plain-cgreg s = plain-only _ _ (plain-fields _ (fields 44 (drop 8 s)))
 pub plain-cereg : (s : List ℕ) → Plain (ceregText s)
 unfolding ceregText ceregFields
 plain-cereg s = plain-only _ _ (plain-need _ _ (λ z. tt))
+
+pub plain-registration : (s : List ℕ) → Plain (registrationText s)
+unfolding registrationText
+plain-registration s = plain-first (cregText s) _ (plain-creg s) (plain-first (cgregText s) _ (plain-cgreg s) (plain-first (ceregText s) _ (plain-cereg s) (plain-none Registration)))

@@ -23,11 +23,12 @@ use Rattle.text.proofs.Fields.{field-bytes, field-in}
 use Rattle.numeral.specs.Numeral.{floatOf}
 use Rattle.unsolicited.specs.Places.{Places}
 use Rattle.unsolicited.specs.Date.{Date, dateOf}
-use Rattle.unsolicited.specs.Gnss.{Position, Motion, Dilution, Satellites, Report, noFix, fix, orZero, floatOrZero, dateOrZero, ugnsinfFields}
+use Rattle.unsolicited.specs.Gnss.{Position, Motion, Dilution, Satellites, Report, noFix, fix, orZero, floatOrZero, dateOrZero, fixOf, ugnsinfFields, ugnsinfText}
 use Rattle.unsolicited.specs.says.Gnss.{dateSays, optionSays}
 use Rattle.unsolicited.specs.declared.ugnsinf.DateTime.{DateTime}
 use Rattle.unsolicited.specs.declared.ugnsinf.OptionDateTime.{OptionDateTime}
 use Rattle.unsolicited.specs.declared.ugnsinf.OptionDateTime.the-variants.{None, Some}
+use Rattle.unsolicited.proofs.Trials.{Plain, plain-only, plain-either, plain-need}
 
 -- what the code has as the answer r of an enum, which f says on paper, where the paper goes on with what o says
 module _ {R A B : Type 0} (f : R → Option A) where
@@ -135,3 +136,12 @@ one-more s ps k p l at all =
     below-more (λ (n : ℕ). getD (set ps k p) n 0 ≡ placeOf n (fields 44 s)) k
     (λ n h. getD-set-other ps k n p 0 (λ e. omega arith) ∙ all n h)
     (getD-set-same ps k p 0 l ∙ at)
+
+-- no refusal but 3
+plain-fix : (fs : List (List ℕ)) → Plain (fixOf fs)
+unfolding fixOf
+plain-fix fs = plain-need _ _ (λ p. plain-need _ _ (λ m. plain-need _ _ (λ d. plain-need _ _ (λ s. tt))))
+
+pub plain-ugnsinf : (s : List ℕ) → Plain (ugnsinfText s)
+unfolding ugnsinfText ugnsinfFields
+plain-ugnsinf s = plain-only _ _ (plain-only _ _ (plain-either _ _ _ (plain-either _ _ _ (plain-fix (fields 44 (drop 10 s))) tt) tt))

@@ -28,6 +28,16 @@ module _ {A B : Type 0} where
   plain-need none f p = refl
   plain-need (some a) f p = p a
 
+  -- a reading under another name
+  module _ (f : A → B) (x : Reading A) where
+    pub mapped-read : (a : A) → read a ≡ x → read (f a) ≡ mapped f x
+    unfolding mapped
+    mapped-read a e = rw (sym e)
+
+    pub mapped-refused : (k : ℕ) → refused k ≡ x → refused k ≡ mapped f x
+    unfolding mapped
+    mapped-refused k e = rw (sym e)
+
   pub plain-mapped : (f : A → B) (r : Reading A) → Plain r → Plain (mapped f r)
   unfolding mapped
   plain-mapped f (read a) p = p
@@ -61,3 +71,7 @@ module _ {A : Type 0} (x : Reading A) where
       go : (y : Reading A) → Plain y → Plain (firstOf 3 (y ∷ rs))
       go (read a) q = tt
       go (refused k) q = rw q h
+
+pub plain-none : (A : Type 0) → Plain (firstOf {A = A} 3 [])
+unfolding firstOf
+plain-none A = refl

@@ -1,2 +1,3 @@
 pub mod Gnss
 pub mod Registration
+pub mod Urc

@@ -1,6 +1,50 @@
-// The modem's unsolicited codes, a module for each file of the Rust's at_command/unsolicited.
+// The modem's unsolicited codes, a module for each file of the Rust's at_command/unsolicited, and their trial.
 pub mod cereg;
 pub mod cgreg;
 pub mod creg;
 pub mod network_registration;
 pub mod ugnsinf;
+use crate::network_registration::NetworkRegistration;
+use crate::network_registration::NetworkRegistrationAnswer;
+use crate::ugnsinf::GnssReport;
+use crate::ugnsinf::GnssReportAnswer;
+use text::line;
+ghost use mathlib.Core.Path.{_≡_};
+ghost use Rattle.text.specs.Line.{checked};
+ghost use Rattle.unsolicited.specs.Urc.{urcText};
+ghost use Rattle.unsolicited.specs.says.Urc.{says};
+
+pub enum Urc {
+    GnssReport(GnssReport),
+    NetworkRegistration(NetworkRegistration),
+}
+
+pub enum UrcAnswer {
+    Value(Urc),
+    Refused(u8),
+}
+
+impl Urc {
+    // For a caller that has checked the line already.
+    pub fn from_checked(line: &[u8]) -> UrcAnswer
+        ensures { λ r. ⌜ says r ≡ urcText (now (line .entry)) ⌝ }
+    {
+        if let GnssReportAnswer::Value(report) = GnssReport::from_checked(line) {
+            return UrcAnswer::Value(Urc::GnssReport(report));
+        }
+        match NetworkRegistration::from_checked(line) {
+            NetworkRegistrationAnswer::Value(registration) => UrcAnswer::Value(Urc::NetworkRegistration(registration)),
+            NetworkRegistrationAnswer::Refused(k) => UrcAnswer::Refused(k),
+        }
+    }
+
+    pub fn from_line(line: &[u8]) -> UrcAnswer
+        ensures { λ r. ⌜ says r ≡ checked urcText (now (line .entry)) ⌝ }
+    {
+        let k = line::check_line(line);
+        if k != 0 {
+            return UrcAnswer::Refused(k);
+        }
+        Urc::from_checked(line)
+    }
+}

@@ -1,0 +1,14 @@
+-- The unsolicited lines, in order of trial (document 01, "What the port takes"; mod.rs).
+use Prim.Native.Nat.{ℕ}
+use mathlib.Core.List.{List, [], _∷_}
+use Rattle.text.specs.Reading.{Reading, mapped, firstOf}
+use Rattle.unsolicited.specs.Gnss.{Report, ugnsinfText}
+use Rattle.unsolicited.specs.Registration.{Registration, registrationText}
+
+pub data Unsolicited : Type 0 where
+  gnss : Report → Unsolicited
+  registration : Registration → Unsolicited
+
+-- +UGNSINF, then +CREG, +CGREG, +CEREG
+unfoldable pub urcText : List ℕ → Reading Unsolicited
+urcText s = firstOf 3 (mapped gnss (ugnsinfText s) ∷ mapped registration (registrationText s) ∷ [])

@@ -1,0 +1,17 @@
+-- What the answers of the trial say on paper.
+use Rattle.text.specs.Reading.{Reading, read, refused}
+use Rattle.unsolicited.specs.Urc.{Unsolicited, gnss, registration}
+use Rattle.unsolicited.specs.says.Gnss.{reportSays}
+use Rattle.unsolicited.specs.says.Registration.{registrationSays}
+use Rattle.unsolicited.specs.declared.Urc.{Urc}
+use Rattle.unsolicited.specs.declared.Urc.the-variants.{GnssReport, NetworkRegistration}
+use Rattle.unsolicited.specs.declared.UrcAnswer.{UrcAnswer}
+use Rattle.unsolicited.specs.declared.UrcAnswer.the-variants.{Value, Refused}
+
+abbrev pub urcSays : Urc → Unsolicited
+urcSays (GnssReport r) = gnss (reportSays r)
+urcSays (NetworkRegistration r) = registration (registrationSays r)
+
+abbrev pub says : UrcAnswer → Reading Unsolicited
+says (Value u) = read (urcSays u)
+says (Refused k) = refused k
