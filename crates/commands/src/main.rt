@@ -9,8 +9,8 @@ use console::output;
 use text::bytes;
 use text::field;
 use text::number;
-use text::number::ParsedU16;
 use text::number::ParsedU8;
+use text::number::ParsedU16;
 use text::part;
 use text::part::Place;
 
@@ -116,7 +116,11 @@ fn request_of(line: &[u8]) -> Asked {
 // The texts of a request are its first fields.
 fn put_command(out: &mut [u8], at: usize, request: Request, line: &[u8]) -> usize {
     let mut command = [0u8; 256];
-    match request.encode(field::field(line, b'\t', 1), field::field(line, b'\t', 2), &mut command) {
+    match request.encode(
+        field::field(line, b'\t', 1),
+        field::field(line, b'\t', 2),
+        &mut command,
+    ) {
         Encoded::Size(n) => output::put(out, at, part::part(&command, 0, n)),
         Encoded::Refused(k) => {
             let e = output::put(out, at, b"refused ");

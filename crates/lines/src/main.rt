@@ -95,9 +95,11 @@ fn level(out: &mut [u8], at: usize, l: SignalLevel) -> usize {
 }
 
 fn signal_quality(out: &mut [u8], at: usize, q: SignalQuality) -> usize {
+    let strength = q.signal_strength;
+    let quality = q.signal_quality;
     let a = output::put(out, at, b"SignalQuality");
-    let b = level(out, a, q.signal_strength);
-    level(out, b, q.signal_quality)
+    let b = level(out, a, strength);
+    level(out, b, quality)
 }
 
 fn system_mode(out: &mut [u8], at: usize, mode: SystemMode) -> usize {
@@ -120,8 +122,10 @@ fn operation_mode(out: &mut [u8], at: usize, mode: OperationMode) -> usize {
 }
 
 fn system_info(out: &mut [u8], at: usize, info: SystemInfo) -> usize {
-    let e = system_mode(out, at, info.system_mode);
-    operation_mode(out, e, info.operation_mode)
+    let system = info.system_mode;
+    let operation = info.operation_mode;
+    let e = system_mode(out, at, system);
+    operation_mode(out, e, operation)
 }
 
 fn operator_mode(out: &mut [u8], at: usize, mode: OperatorMode) -> usize {
@@ -150,19 +154,34 @@ fn operator_name(out: &mut [u8], at: usize, line: &[u8], name: OperatorName) -> 
 }
 
 fn operator_info(out: &mut [u8], at: usize, line: &[u8], info: OperatorInfo) -> usize {
-    let a = operator_mode(out, at, info.mode);
-    let b = operator_format(out, a, info.format);
-    operator_name(out, b, line, info.operator_name)
+    let mode = info.mode;
+    let format = info.format;
+    let name = info.operator_name;
+    let a = operator_mode(out, at, mode);
+    let b = operator_format(out, a, format);
+    operator_name(out, b, line, name)
 }
 
 fn ntp_code(out: &mut [u8], at: usize, code: SyncNtpStatusCode) -> usize {
     match code {
         SyncNtpStatusCode::Success => output::put(out, at, b"NetworkTime Success"),
         SyncNtpStatusCode::NetworkError => output::put(out, at, b"NetworkTime NetworkError"),
-        SyncNtpStatusCode::DnsResolutionError => output::put(out, at, b"NetworkTime DnsResolutionError"),
+        SyncNtpStatusCode::DnsResolutionError => output::put(
+            out,
+            at,
+            b"NetworkTime DnsResolutionError",
+        ),
         SyncNtpStatusCode::ConnectionError => output::put(out, at, b"NetworkTime ConnectionError"),
-        SyncNtpStatusCode::ServiceResponseError => output::put(out, at, b"NetworkTime ServiceResponseError"),
-        SyncNtpStatusCode::ServiceResponseTimeout => output::put(out, at, b"NetworkTime ServiceResponseTimeout"),
+        SyncNtpStatusCode::ServiceResponseError => output::put(
+            out,
+            at,
+            b"NetworkTime ServiceResponseError",
+        ),
+        SyncNtpStatusCode::ServiceResponseTimeout => output::put(
+            out,
+            at,
+            b"NetworkTime ServiceResponseTimeout",
+        ),
     }
 }
 
@@ -174,8 +193,10 @@ fn time_text(out: &mut [u8], at: usize, line: &[u8], time: TimePlace) -> usize {
 }
 
 fn network_time(out: &mut [u8], at: usize, line: &[u8], time: NetworkTime) -> usize {
-    let e = ntp_code(out, at, time.code);
-    time_text(out, e, line, time.time)
+    let code = time.code;
+    let text = time.time;
+    let e = ntp_code(out, at, code);
+    time_text(out, e, line, text)
 }
 
 fn status_code(out: &mut [u8], at: usize, code: StatusCode) -> usize {
@@ -186,7 +207,11 @@ fn status_code(out: &mut [u8], at: usize, code: StatusCode) -> usize {
         StatusCode::BadRequest => output::put(out, at, b"DownloadInfo BadRequest"),
         StatusCode::NotFound => output::put(out, at, b"DownloadInfo NotFound"),
         StatusCode::RequestTimeout => output::put(out, at, b"DownloadInfo RequestTimeout"),
-        StatusCode::InternalServerError => output::put(out, at, b"DownloadInfo InternalServerError"),
+        StatusCode::InternalServerError => output::put(
+            out,
+            at,
+            b"DownloadInfo InternalServerError",
+        ),
         StatusCode::NotHttpPdu => output::put(out, at, b"DownloadInfo NotHttpPdu"),
         StatusCode::NetworkError => output::put(out, at, b"DownloadInfo NetworkError"),
         StatusCode::NoMemory => output::put(out, at, b"DownloadInfo NoMemory"),
@@ -198,7 +223,8 @@ fn status_code(out: &mut [u8], at: usize, code: StatusCode) -> usize {
 }
 
 fn download_info(out: &mut [u8], at: usize, info: DownloadInfo) -> usize {
-    let e = status_code(out, at, info.status_code);
+    let code = info.status_code;
+    let e = status_code(out, at, code);
     number(out, e, info.data_length)
 }
 
@@ -239,12 +265,28 @@ fn response(out: &mut [u8], at: usize, line: &[u8], code: ResponseCode) -> usize
 
 fn status(out: &mut [u8], at: usize, s: RegistrationStatus) -> usize {
     match s {
-        RegistrationStatus::NotRegistered => output::put(out, at, b"NetworkRegistration NotRegistered"),
-        RegistrationStatus::RegisteredHome => output::put(out, at, b"NetworkRegistration RegisteredHome"),
+        RegistrationStatus::NotRegistered => output::put(
+            out,
+            at,
+            b"NetworkRegistration NotRegistered",
+        ),
+        RegistrationStatus::RegisteredHome => output::put(
+            out,
+            at,
+            b"NetworkRegistration RegisteredHome",
+        ),
         RegistrationStatus::Searching => output::put(out, at, b"NetworkRegistration Searching"),
-        RegistrationStatus::RegistrationDenied => output::put(out, at, b"NetworkRegistration RegistrationDenied"),
+        RegistrationStatus::RegistrationDenied => output::put(
+            out,
+            at,
+            b"NetworkRegistration RegistrationDenied",
+        ),
         RegistrationStatus::Unknown => output::put(out, at, b"NetworkRegistration Unknown"),
-        RegistrationStatus::RegisteredRoaming => output::put(out, at, b"NetworkRegistration RegisteredRoaming"),
+        RegistrationStatus::RegisteredRoaming => output::put(
+            out,
+            at,
+            b"NetworkRegistration RegisteredRoaming",
+        ),
     }
 }
 
@@ -263,18 +305,24 @@ fn option_u32(out: &mut [u8], at: usize, p: ParsedU32) -> usize {
 }
 
 fn registration(out: &mut [u8], at: usize, r: NetworkRegistration) -> usize {
-    let a = status(out, at, r.status);
-    let b = option_u16(out, a, r.lac);
-    option_u32(out, b, r.ci)
+    let registered = r.status;
+    let lac = r.lac;
+    let ci = r.ci;
+    let a = status(out, at, registered);
+    let b = option_u16(out, a, lac);
+    option_u32(out, b, ci)
 }
 
-fn date(out: &mut [u8], at: usize, d: DateTime) -> usize {
+fn day(out: &mut [u8], at: usize, d: DateTime) -> usize {
     let a = number(out, at, d.year as u64);
     let b = number(out, a, d.month as u64);
-    let c = number(out, b, d.day as u64);
-    let e = number(out, c, d.hour as u64);
-    let f = number(out, e, d.minute as u64);
-    number(out, f, d.second as u64)
+    number(out, b, d.day as u64)
+}
+
+fn time(out: &mut [u8], at: usize, d: DateTime) -> usize {
+    let a = number(out, at, d.hour as u64);
+    let b = number(out, a, d.minute as u64);
+    number(out, b, d.second as u64)
 }
 
 fn position(out: &mut [u8], at: usize, f: GnssFix) -> usize {
@@ -296,10 +344,12 @@ fn satellites(out: &mut [u8], at: usize, f: GnssFix) -> usize {
 }
 
 fn fix(out: &mut [u8], at: usize, f: GnssFix) -> usize {
+    let date = f.date_time;
     let a = output::put(out, at, b"GnssReport Fix");
-    let b = date(out, a, f.date_time);
-    let c = position(out, b, f);
-    satellites(out, c, f)
+    let b = day(out, a, date);
+    let c = time(out, b, date);
+    let d = position(out, c, f);
+    satellites(out, d, f)
 }
 
 fn no_fix(out: &mut [u8], at: usize, view: ParsedU32) -> usize {
@@ -335,13 +385,6 @@ fn not_response(out: &mut [u8], at: usize, line: &[u8], j: u8) -> usize {
     }
 }
 
-fn answer(out: &mut [u8], at: usize, line: &[u8]) -> usize {
-    match ResponseCode::from_line(line) {
-        ResponseCodeAnswer::Value(code) => response(out, at, line, code),
-        ResponseCodeAnswer::Refused(j) => not_response(out, at, line, j),
-    }
-}
-
 // The line without a CR at its end.
 fn without_cr(line: &[u8]) -> &[u8] {
     let n = line.len();
@@ -349,9 +392,17 @@ fn without_cr(line: &[u8]) -> &[u8] {
         return line;
     }
     if line[n - 1] == b'\r' {
-        return &line[..n - 1];
+        return part::part(line, 0, n - 1);
     }
     line
+}
+
+fn answer(out: &mut [u8], at: usize, whole: &[u8]) -> usize {
+    let line = without_cr(whole);
+    match ResponseCode::from_line(line) {
+        ResponseCodeAnswer::Value(code) => response(out, at, line, code),
+        ResponseCodeAnswer::Refused(j) => not_response(out, at, line, j),
+    }
 }
 
 fn run(buffer: &mut [u8], out: &mut [u8]) {
@@ -366,7 +417,7 @@ fn run(buffer: &mut [u8], out: &mut [u8]) {
         };
         start = rest.start;
         end = rest.end;
-        let e = answer(out, at, without_cr(part::part(buffer, line.start, line.end)));
+        let e = answer(out, at, part::part(buffer, line.start, line.end));
         at = output::end_line(out, e);
         left -= 1;
     }

@@ -29,7 +29,7 @@ module _ (s : List ℕ) (at : ℕ) (b : List ℕ) where
         let same : i ≡ length s = le-antisymm p q in
         record {
           ends = rw (le-leb _ _ r) (ap (λ (k : ℕ). at + k) same);
-          holds = rw (le-leb _ _ r) (e ∙ rw (same, take-all (length s) s (le-refl (length s))))
+          holds = rw (le-leb _ _ r) (e ∙ rw (same, take-all (length s) s (le-refl (length s))));
         }
 
 abbrev Inv-loop : tie.InvT-loop
