@@ -1,0 +1,80 @@
+// Texts and numbers laid into a lent buffer, one behind the other. Each call says where the next one goes; what has no room is left out.
+use libc::STDOUT_FILENO;
+use numeral::bits;
+use text::part;
+ghost use mathlib.Core.Path.{_≡_};
+ghost use Prim.Native.Nat.{_-_};
+ghost use Rattle.numeral.specs.Bits.{bitsOf};
+ghost use Rattle.console.specs.Output.{Puts, PutsNumber, EndsLine};
+
+// A line has this much room at least when it begins.
+const ROOM: usize = 1024;
+
+pub fn put(out: &mut [u8], at: usize, s: &[u8]) -> usize
+    ensures { λ r. ⌜ Puts (now (s .entry)) at (now (out .entry)) r (now (out .exit)) ⌝ }
+{
+    if out.len() < at {
+        return at;
+    }
+    if out.len() - at < s.len() {
+        return at;
+    }
+    let mut i = 0;
+    while i < s.len() {
+        out[at + i] = s[i];
+        i += 1;
+    }
+    at + i
+}
+
+// The number in decimal.
+pub fn put_decimal(out: &mut [u8], at: usize, n: u64) -> usize
+    ensures { λ r. ⌜ PutsNumber 10 1 n at (now (out .entry)) r (now (out .exit)) ⌝ }
+{
+    let mut digits = [0u8; 20];
+    let k = io::decimal(n, &mut digits);
+    put(out, at, &digits[..k])
+}
+
+// The number as eight hexadecimal digits.
+fn put_hex(out: &mut [u8], at: usize, n: u32) -> usize
+    ensures { λ r. ⌜ PutsNumber 16 8 n at (now (out .entry)) r (now (out .exit)) ⌝ }
+{
+    let mut digits = [0u8; 16];
+    let k = io::hex(n as u64, 8, &mut digits);
+    put(out, at, &digits[..k])
+}
+
+// The bits of a float.
+pub fn put_float(out: &mut [u8], at: usize, x: f32) -> usize
+    ensures { λ r. ⌜ PutsNumber 16 8 (bitsOf x) at (now (out .entry)) r (now (out .exit)) ⌝ }
+{
+    put_hex(out, at, bits::bits_of(x))
+}
+
+// Writes the first n bytes of out to standard output.
+pub fn flush(out: &[u8], n: usize) {
+    io::write_all(STDOUT_FILENO, part::part(out, 0, n));
+}
+
+// Past this index a buffer of n bytes is nearly full.
+fn nearly_full(n: usize) -> usize
+    ensures { λ r. ⌜ r ≡ n - 1024 ⌝ }
+{
+    if n < ROOM {
+        return 0;
+    }
+    n - ROOM
+}
+
+// Ends the line at `at`, writes all where out is nearly full, and says where the next line begins.
+pub fn end_line(out: &mut [u8], at: usize) -> usize
+    ensures { λ r. ⌜ EndsLine at (now (out .entry)) r (now (out .exit)) ⌝ }
+{
+    let e = put(out, at, b"\n");
+    if nearly_full(out.len()) < e {
+        flush(out, e);
+        return 0;
+    }
+    e
+}
