@@ -14,7 +14,7 @@ use Rattle.text.specs.Reading.{Reading, read, refused}
 use Rattle.text.specs.Line.{lineCheck, checked}
 use Rattle.text.proofs.LineLaws.{check-long}
 use Rattle.at_command.specs.Response.{Response, responseText}
-use Rattle.unsolicited.specs.Urc.{Unsolicited, urcText, urc}
+use Rattle.unsolicited.specs.Urc.{Unsolicited, urcText}
 use Rattle.desk.specs.Cut.{View, held, Piece, bare, long, isPrompt, ended, cutOne, cutAll, viewAfter}
 use Rattle.desk.specs.Kind.{unsolicited, lineKind}
 use Rattle.desk.specs.Script.{lines, Complete, Slip}
@@ -37,17 +37,13 @@ checked-read reader l e =
     (λ f. let g = rw f at e in never (cc))
     (both (eqb (lineCheck l) 0))
 
-urc-passed : (l : List ℕ) {u : Unsolicited} → urc l ≡ read u → Passed urcText l u
-unfolding urc
-urc-passed l e = checked-read urcText l e
-
 module _ (l : List ℕ) {u : Unsolicited} (p : Passed urcText l u) where
   by-trial : (r : Reading Response) → responseText l ≡ r → lineKind l ≡ read unsolicited
   by-trial (read r) e = absurd (apart .alone l (sym (p .says)) e)
   by-trial (refused j) e = sym (kind-urc l (p .check) refl (sym e) (p .says))
 
-pub accepted-slip : (bytes l : List ℕ) {u : Unsolicited} → Complete bytes l → urc l ≡ read u → Slip bytes l
-accepted-slip bytes l c e = record { complete = c; kind = by-trial l (urc-passed l e) (responseText l) refl }
+pub accepted-slip : (bytes l : List ℕ) {u : Unsolicited} → Complete bytes l → checked urcText l ≡ read u → Slip bytes l
+accepted-slip bytes l c e = record { complete = c; kind = by-trial l (checked-read urcText l e) (responseText l) refl }
 
 -- ---- a line and its LF
 
@@ -95,9 +91,9 @@ front-bare raw h =
     (both (endsWith (bytes "\r") raw))
 
 -- raw has no LF, and without its CR it is a line that the unsolicited readers accept: with an LF it is complete
-pub line-complete : (raw : List ℕ) {u : Unsolicited} → countOf 10 raw ≡ 0 → urc (bare raw) ≡ read u → Complete (raw ++ 10 ∷ []) (bare raw)
+pub line-complete : (raw : List ℕ) {u : Unsolicited} → countOf 10 raw ≡ 0 → checked urcText (bare raw) ≡ read u → Complete (raw ++ 10 ∷ []) (bare raw)
 line-complete raw n e =
-    let p = urc-passed (bare raw) e in
+    let p = checked-read urcText (bare raw) e in
     let short = short-checked (bare raw) (p .check) in
     let front = apart .front (bare raw) (sym (p .says)) in
     let more : 0 < length (bare raw) = rw (front .is) (omega arith) in
