@@ -10,3 +10,4 @@ pub mod Apart
 pub mod Accepted
 pub mod Leaned
 pub mod One
+pub mod Example
