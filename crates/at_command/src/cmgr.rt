@@ -7,6 +7,7 @@ use text::field;
 use text::line;
 use text::part;
 use text::part::Place;
+use text::reader;
 ghost use mathlib.Core.Path.{_≡_};
 ghost use lib.ListN.{drop};
 ghost use Rattle.text.specs.Field.{fields};
@@ -34,7 +35,7 @@ fn sms_message(line: &[u8]) -> SmsMessageAnswer
     if field::field_count(rest, b',') < 3 {
         return SmsMessageAnswer::Refused(3);
     }
-    if 20 < part::trim(field::field(rest, b',', 1), b'"').len() {
+    if 20 < part::trim(reader::nth_field(rest, 1), b'"').len() {
         return SmsMessageAnswer::Refused(4);
     }
     SmsMessageAnswer::Value(SmsMessage {

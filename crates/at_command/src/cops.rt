@@ -7,6 +7,7 @@ use text::field;
 use text::line;
 use text::part;
 use text::part::Place;
+use text::reader;
 ghost use mathlib.Core.Path.{_≡_};
 ghost use Prim.Native.Nat.{_+_, _≤_};
 ghost use lib.ListN.{drop, length};
@@ -97,7 +98,7 @@ fn field_or<'a>(t: &'a [u8], n: usize, fallback: &'a [u8]) -> &'a [u8]
     ensures { λ r. ⌜ FieldOr (t .entry) (fallback .entry) n r ⌝ }
 {
     if n < field::field_count(t, b',') {
-        return field::field(t, b',', n);
+        return reader::nth_field(t, n);
     }
     fallback
 }
@@ -121,7 +122,7 @@ fn operator_info<'a>(line: &'a [u8], format: &'a [u8], name: &'a [u8]) -> Operat
     ensures { λ r. ⌜ says r ≡ copsFields (now (format .entry)) (now (name .entry)) (fields 44 (drop 7 (now (line .entry)))) ⌝ }
 {
     let rest = part::skip(line, 7);
-    let ModeCode::Is(mode) = mode_of(field::field(rest, b',', 0)) else {
+    let ModeCode::Is(mode) = mode_of(reader::nth_field(rest, 0)) else {
         return OperatorInfoAnswer::Refused(3);
     };
     let FormatCode::Is(read) = format_of(field_or(rest, 1, format)) else {

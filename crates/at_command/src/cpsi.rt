@@ -5,6 +5,7 @@ use text::bytes;
 use text::field;
 use text::line;
 use text::part;
+use text::reader;
 ghost use mathlib.Core.Path.{_≡_};
 ghost use Rattle.text.specs.Code.{codeIn};
 ghost use Rattle.text.specs.Field.{fields};
@@ -94,10 +95,10 @@ fn system_info(t: &[u8]) -> SystemInfoAnswer
     if field::field_count(t, b',') < 9 {
         return SystemInfoAnswer::Refused(3);
     }
-    let SystemCode::Is(system_mode) = system_of(field::field(t, b',', 0)) else {
+    let SystemCode::Is(system_mode) = system_of(reader::nth_field(t, 0)) else {
         return SystemInfoAnswer::Refused(3);
     };
-    let OperationCode::Is(operation_mode) = operation_of(field::field(t, b',', 1)) else {
+    let OperationCode::Is(operation_mode) = operation_of(reader::nth_field(t, 1)) else {
         return SystemInfoAnswer::Refused(3);
     };
     SystemInfoAnswer::Value(SystemInfo {

@@ -2,6 +2,7 @@
 use text::field;
 use text::part;
 use text::part::Place;
+use text::reader;
 ghost use mathlib.Core.Path.{_≡_};
 ghost use Prim.Native.Nat.{_<_};
 ghost use lib.ListN.{length, drop};
@@ -15,7 +16,7 @@ pub(crate) fn unquoted_field(line: &[u8], n: usize) -> Place
     ensures { λ r. ⌜ placeSays r ≡ unquotedField n (fields 44 (drop 7 (now (line .entry)))) ⌝ }
 {
     let rest = part::skip(line, 7);
-    let quoted = field::field(rest, b',', n);
+    let quoted = reader::nth_field(rest, n);
     let at = field::field_start(rest, b',', n);
     let lead = part::trim_start(quoted, b'"');
     let left = part::trim(quoted, b'"').len();

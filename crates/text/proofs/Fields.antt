@@ -53,14 +53,14 @@ module _ (b : ℕ) where
   place-nil (suc n) = refl
 
   -- the place of a later field, from the first separator on
-  place-has : (s : List ℕ) (n : ℕ) → indexOf b s < length s → placeOf (suc n) (fields b s) ≡ indexOf b s + 1 + placeOf n (fields b (after b s))
+  pub place-has : (s : List ℕ) (n : ℕ) → indexOf b s < length s → placeOf (suc n) (fields b s) ≡ indexOf b s + 1 + placeOf n (fields b (after b s))
   place-has s n h = rw (fields-has s h, before-length s)
 
-  place-not : (s : List ℕ) (n : ℕ) → length s ≤ indexOf b s → placeOf (suc n) (fields b s) ≡ length s + 1
+  pub place-not : (s : List ℕ) (n : ℕ) → length s ≤ indexOf b s → placeOf (suc n) (fields b s) ≡ length s + 1
   place-not s n h = rw (fields-not s h, place-nil n, add-zero)
 
   -- by cases on whether a separator is there
-  split : {P : Type 0} (s : List ℕ) → (indexOf b s < length s → P) → (length s ≤ indexOf b s → P) → P
+  pub split : {P : Type 0} (s : List ℕ) → (indexOf b s < length s → P) → (length s ≤ indexOf b s → P) → P
   split {P} s f g = go (ltb (indexOf b s) (length s)) refl
     where
       go : (t : Bool) → ltb (indexOf b s) (length s) ≡ t → P

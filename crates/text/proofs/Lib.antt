@@ -11,6 +11,8 @@ pub mod Parts
 pub mod Readings
 pub mod Rest
 pub mod Signs
+pub mod Stands
 pub mod Trims
 pub mod Utf8Grammar
 pub mod Utf8Laws
+pub mod Walk

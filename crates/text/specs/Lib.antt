@@ -4,6 +4,7 @@ pub mod Field
 pub mod Line
 pub mod Number
 pub mod Part
+pub mod Reader
 pub mod Reading
 pub mod Utf8
 pub mod says

@@ -4,4 +4,5 @@ pub mod field;
 pub mod line;
 pub mod number;
 pub mod part;
+pub mod reader;
 pub mod utf8;

@@ -15,8 +15,8 @@ returns : tie.Need-returns
 unfolding cmgrFields
 returns c = search (reader)
 
-field-requires : tie.Need-field-requires
-field-requires c κs = search needs
+nth-field-requires : tie.Need-nth-field-requires
+nth-field-requires c κs = search needs
 
 trim-requires : tie.Need-trim-requires
 trim-requires c κs = search needs
@@ -39,7 +39,7 @@ sms-message-spec =
     skip-requires
     field-count-requires
     returns
-    field-requires
+    nth-field-requires
     trim-requires
     returns-2
     unquoted-field-requires

@@ -13,8 +13,8 @@ use Rattle.at_command.proofs.cops.Laws.{field-or-via, operator}
 skip-requires : tie.Need-skip-requires
 skip-requires c κs = search needs
 
-field-requires : tie.Need-field-requires
-field-requires c κs = search needs
+nth-field-requires : tie.Need-nth-field-requires
+nth-field-requires c κs = search needs
 
 mode-of-requires : tie.Need-mode-of-requires
 mode-of-requires c κs = search needs
@@ -57,7 +57,7 @@ operator-info-spec =
     tie.close
     (tie.spec
     skip-requires
-    field-requires
+    nth-field-requires
     mode-of-requires
     enum-known-mode
     enum-told

@@ -17,8 +17,8 @@ returns : tie.Need-returns
 unfolding cpsiFields
 returns c = search reader
 
-field-requires : tie.Need-field-requires
-field-requires c κs = search needs
+nth-field-requires : tie.Need-nth-field-requires
+nth-field-requires c κs = search needs
 
 system-of-requires : tie.Need-system-of-requires
 system-of-requires c κs = search needs
@@ -33,8 +33,8 @@ returns-2 : tie.Need-returns-2
 unfolding cpsiFields
 returns-2 c = search (reader, lacked {B = System} systemSays (codeIn systemModes) S.Not refl)
 
-field-requires-2 : tie.Need-field-requires-2
-field-requires-2 c κs = search needs
+nth-field-requires-2 : tie.Need-nth-field-requires-2
+nth-field-requires-2 c κs = search needs
 
 operation-of-requires : tie.Need-operation-of-requires
 operation-of-requires c κs = search needs
@@ -59,12 +59,12 @@ system-info-spec =
     (tie.spec
     field-count-requires
     returns
-    field-requires
+    nth-field-requires
     system-of-requires
     enum-known-system-mode
     enum-told
     returns-2
-    field-requires-2
+    nth-field-requires-2
     operation-of-requires
     enum-known-operation-mode
     enum-told-2

@@ -9,8 +9,8 @@ use Rattle.at_command.proofs.unquoted.Laws.{in-line, unquoted-at}
 skip-requires : tie.Need-skip-requires
 skip-requires c κs = search needs
 
-field-requires : tie.Need-field-requires
-field-requires c κs = search needs
+nth-field-requires : tie.Need-nth-field-requires
+nth-field-requires c κs = search needs
 
 field-start-requires : tie.Need-field-start-requires
 field-start-requires c κs = search needs
@@ -38,7 +38,7 @@ unquoted-field-spec =
     tie.close
     (tie.spec
     skip-requires
-    field-requires
+    nth-field-requires
     field-start-requires
     trim-start-requires
     trim-requires
