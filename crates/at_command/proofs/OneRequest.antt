@@ -71,6 +71,9 @@ awaits-back (Two a b) = rw (kind-back a, kind-back b)
 pub one-awaits : (q : Request) (a b : Awaits) → awaitsSays a ≡ awaitedBy q → awaitsSays b ≡ awaitedBy q → a ≡ b
 one-awaits q a b = one-answer awaitsSays awaits awaits-back a b (awaitedBy q)
 
+pub one-kind : (a b : ResponseKind) (k : Kind) → kindSays a ≡ k → kindSays b ≡ k → a ≡ b
+one-kind = one-answer kindSays kind kind-back
+
 -- what a request awaits does not depend on its texts
 pub any-texts : (q : Request) (first second : List ℕ) → answersTo (asked q first second) ≡ awaitedBy q
 any-texts R.GetSignalQuality first second = refl
