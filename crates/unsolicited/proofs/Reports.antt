@@ -1,5 +1,5 @@
 -- The parts of +UGNSINF: where its fields begin, what may be empty, and what the code's answers pick. Assumes nothing.
-use mathlib.Core.Path.{_≡_, ap, sym, _∙_}
+use mathlib.Core.Path.{_≡_, refl, ap, sym, _∙_}
 use mathlib.Core.Bool.{false, cond}
 use mathlib.Core.List.{List, [], _∷_}
 use mathlib.Core.Option.{Option, none, some, bind}
@@ -97,10 +97,6 @@ module _ (s : List ℕ) (n p : ℕ) (at : p ≡ placeOf n (fields 44 s)) where
       let z : p + indexOf 44 (drop p s) - p ≡ indexOf 44 (drop p s) = omega arith in
       rw (← bytes-at, z) (length-take-le (indexOf 44 (drop p s)) (drop p s) (index-le 44 (drop p s)))
 
-  -- `field_at`
-  pub field-found : (e : ℕ) (t : List ℕ) → e ≡ p + indexOf 44 (drop p s) → t ≡ partOf s p e → t ≡ nth n (fields 44 s)
-  field-found e t q h = h ∙ ap (partOf s p) q ∙ bytes-at
-
   -- `places_of`: the next place, and the end of a field
   module _ (e : ℕ) (found : e ≡ p + indexOf 44 (drop p s)) (there : n < length (fields 44 s)) where
     pub next-at : e + 1 ≡ placeOf (n + 1) (fields 44 s)
@@ -112,6 +108,17 @@ module _ (s : List ℕ) (n p : ℕ) (at : p ≡ placeOf n (fields 44 s)) where
 
     pub end-in : e ≤ length s
     end-in = let i = field-in 44 n s there in let l = field-length in omega arith
+
+  -- `field_at`: a field ends one byte before the next place
+  module _ (q : ℕ) (behind : q ≡ placeOf (n + 1) (fields 44 s)) (there : n < length (fields 44 s)) where
+    end-before : q ≡ p + indexOf 44 (drop p s) + 1
+    end-before = behind ∙ sym (next-at (p + indexOf 44 (drop p s)) refl there)
+
+    pub is-behind : 1 ≤ q
+    is-behind = let z = end-before in omega arith
+
+    pub field-found : (e : ℕ) (t : List ℕ) → e ≡ q - 1 → t ≡ partOf s p e → t ≡ nth n (fields 44 s)
+    field-found e t b h = let z = end-before in let i : e ≡ p + indexOf 44 (drop p s) = omega arith in h ∙ ap (partOf s p) i ∙ bytes-at
 
 -- the places that were found, with one more
 pub one-more : (s ps : List ℕ) (k p : ℕ) → k < length ps → p ≡ placeOf k (fields 44 s) → ((n : ℕ) → n < k → getD ps n 0 ≡ placeOf n (fields 44 s))

@@ -114,45 +114,46 @@ pub enum GnssReportAnswer {
     Refused(u8),
 }
 
-// Where each of the 21 fields begins.
-fn places_of(rest: &[u8]) -> [usize; 21]
+// Where each of the 21 fields begins, and where a next one would.
+fn places_of(rest: &[u8]) -> [usize; 22]
     requires { ⌜ length (fields 44 (now rest)) ≡ 21 ⌝ }
     ensures { λ r. ⌜ Places r (now (rest .entry)) ⌝ }
 {
-    let mut places = [0usize; 21];
+    let mut places = [0usize; 22];
     let mut at = 0;
     let mut k = 0;
     while k < 21 {
-        places[k] = at;
         at = bytes::find(rest, at, b',') + 1;
         k += 1;
+        places[k] = at;
     }
     places
 }
 
-fn field_at<'a>(rest: &'a [u8], places: &[usize; 21], n: usize) -> &'a [u8]
+fn field_at<'a>(rest: &'a [u8], places: &[usize; 22], n: usize) -> &'a [u8]
     requires { ⌜ Places (now places) (now rest) × (n < 21) ⌝ }
     ensures { λ r. ⌜ now r ≡ nth n (fields 44 (now (rest .entry))) ⌝ }
 {
     let at = places[n];
-    part::part(rest, at, bytes::find(rest, at, b','))
+    let next = places[n + 1];
+    part::part(rest, at, next - 1)
 }
 
-fn is_one(rest: &[u8], places: &[usize; 21], n: usize) -> bool
+fn is_one(rest: &[u8], places: &[usize; 22], n: usize) -> bool
     requires { ⌜ Places (now places) (now rest) × (n < 21) ⌝ }
     ensures { λ r. ⌜ r ≡ same (nth n (fields 44 (now (rest .entry)))) (bytes "1") ⌝ }
 {
     bytes::is_text(field_at(rest, places, n), b"1")
 }
 
-fn float_at(rest: &[u8], places: &[usize; 21], n: usize) -> Numeral
+fn float_at(rest: &[u8], places: &[usize; 22], n: usize) -> Numeral
     requires { ⌜ Places (now places) (now rest) × (n < 21) ⌝ }
     ensures { λ r. ⌜ told r ≡ floatOf (nth n (fields 44 (now (rest .entry)))) ⌝ }
 {
     numeral::read(field_at(rest, places, n))
 }
 
-fn float_or_zero(rest: &[u8], places: &[usize; 21], n: usize) -> Numeral
+fn float_or_zero(rest: &[u8], places: &[usize; 22], n: usize) -> Numeral
     requires { ⌜ Places (now places) (now rest) × (n < 21) ⌝ }
     ensures { λ r. ⌜ told r ≡ floatOrZero (nth n (fields 44 (now (rest .entry)))) ⌝ }
 {
@@ -163,7 +164,7 @@ fn float_or_zero(rest: &[u8], places: &[usize; 21], n: usize) -> Numeral
     numeral::read(t)
 }
 
-fn count_or_zero(rest: &[u8], places: &[usize; 21], n: usize) -> ParsedU32
+fn count_or_zero(rest: &[u8], places: &[usize; 22], n: usize) -> ParsedU32
     requires { ⌜ Places (now places) (now rest) × (n < 21) ⌝ }
     ensures { λ r. ⌜ saysU32 r ≡ countOrZero (nth n (fields 44 (now (rest .entry)))) ⌝ }
 {
@@ -174,7 +175,7 @@ fn count_or_zero(rest: &[u8], places: &[usize; 21], n: usize) -> ParsedU32
     number::parse_u32(t)
 }
 
-fn date_or_zero(rest: &[u8], places: &[usize; 21]) -> DateTime
+fn date_or_zero(rest: &[u8], places: &[usize; 22]) -> DateTime
     requires { ⌜ Places (now places) (now rest) ⌝ }
     ensures { λ r. ⌜ dateSays r ≡ dateOrZero (nth 2 (fields 44 (now (rest .entry)))) ⌝ }
 {
@@ -202,7 +203,7 @@ enum OptionPosition {
     Some(Position),
 }
 
-fn position_of(rest: &[u8], places: &[usize; 21]) -> OptionPosition
+fn position_of(rest: &[u8], places: &[usize; 22]) -> OptionPosition
     requires { ⌜ Places (now places) (now rest) ⌝ }
     ensures { λ r. ⌜ positionOptionSays r ≡ positionOf (fields 44 (now (rest .entry))) ⌝ }
 {
@@ -232,7 +233,7 @@ enum OptionMotion {
     Some(Motion),
 }
 
-fn motion_of(rest: &[u8], places: &[usize; 21]) -> OptionMotion
+fn motion_of(rest: &[u8], places: &[usize; 22]) -> OptionMotion
     requires { ⌜ Places (now places) (now rest) ⌝ }
     ensures { λ r. ⌜ motionOptionSays r ≡ motionOf (fields 44 (now (rest .entry))) ⌝ }
 {
@@ -256,7 +257,7 @@ enum OptionDilution {
     Some(Dilution),
 }
 
-fn dilution_of(rest: &[u8], places: &[usize; 21]) -> OptionDilution
+fn dilution_of(rest: &[u8], places: &[usize; 22]) -> OptionDilution
     requires { ⌜ Places (now places) (now rest) ⌝ }
     ensures { λ r. ⌜ dilutionOptionSays r ≡ dilutionOf (fields 44 (now (rest .entry))) ⌝ }
 {
@@ -284,7 +285,7 @@ enum OptionSatellites {
     Some(Satellites),
 }
 
-fn satellites_of(rest: &[u8], places: &[usize; 21]) -> OptionSatellites
+fn satellites_of(rest: &[u8], places: &[usize; 22]) -> OptionSatellites
     requires { ⌜ Places (now places) (now rest) ⌝ }
     ensures { λ r. ⌜ satellitesOptionSays r ≡ satellitesOf (fields 44 (now (rest .entry))) ⌝ }
 {
@@ -308,7 +309,7 @@ fn satellites_of(rest: &[u8], places: &[usize; 21]) -> OptionSatellites
     })
 }
 
-fn gnss_fix(rest: &[u8], places: &[usize; 21]) -> GnssReportAnswer
+fn gnss_fix(rest: &[u8], places: &[usize; 22]) -> GnssReportAnswer
     requires { ⌜ Places (now places) (now rest) ⌝ }
     ensures { λ r. ⌜ says r ≡ fixOf (fields 44 (now (rest .entry))) ⌝ }
 {
