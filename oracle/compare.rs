@@ -242,10 +242,27 @@ fn sample(folder: &str) -> std::io::Result<()> {
     std::fs::write(format!("{}/outside.txt", folder), marks)
 }
 
+/// So many random inputs inside the domain of equality, each with an LF.
+fn list(kind: Kind, seed: u64, count: usize, file: &str) -> std::io::Result<()> {
+    let random = Inputs::new(kind, seed, usize::MAX).skip(kind.fixed().len());
+    let mut bytes = Vec::new();
+    for input in random.filter(|input| kind.outside(input).is_none()).take(count) {
+        // a line without the CR that the programs take off
+        bytes.extend(input.strip_suffix(b"\r").filter(|_| matches!(kind, Kind::Lines)).unwrap_or(&input));
+        bytes.push(b'\n');
+    }
+    std::fs::write(file, bytes)
+}
+
 fn main() -> std::io::Result<()> {
     let args: Vec<String> = std::env::args().skip(1).collect();
     if args.len() == 2 && args[0] == "sample" {
         return sample(&args[1]);
+    }
+    if args.len() == 5 && args[0] == "list" {
+        let kind = if args[1] == "lines" { Kind::Lines } else { Kind::Requests };
+        let number = |text: &str| text.parse().unwrap_or_else(|_| fail(format!("{} is no number", text)));
+        return list(kind, number(&args[2]), number(&args[3]) as usize, &args[4]);
     }
     let number = |at: usize, standard: u64| args.get(at).map_or(standard, |text| text.parse().unwrap_or_else(|_| fail(format!("{} is no number", text))));
     let (seed, lines, requests) = (number(0, 1), number(1, 2_000_000), number(2, 200_000));

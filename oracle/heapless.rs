@@ -2,27 +2,31 @@
 //! `From<&str>` stops past N bytes, as cgnapn.rs says of heapless; `write_str` fails past N and leaves the text as it was.
 
 use std::fmt;
+use std::mem::MaybeUninit;
 
+/// The bytes behind `len` are not set, as in heapless: clearing them would cost the Rust time in the benchmark.
 pub struct String<const N: usize> {
-    bytes: [u8; N],
+    bytes: [MaybeUninit<u8>; N],
     len: usize,
 }
 
 impl<const N: usize> String<N> {
     pub fn new() -> Self {
-        String { bytes: [0; N], len: 0 }
+        String { bytes: [MaybeUninit::uninit(); N], len: 0 }
     }
 
     pub fn as_str(&self) -> &str {
-        // Only whole `str`s are ever pushed.
-        unsafe { std::str::from_utf8_unchecked(&self.bytes[..self.len]) }
+        // Only whole `str`s are ever pushed, and they set the first `len` bytes.
+        unsafe { std::str::from_utf8_unchecked(std::slice::from_raw_parts(self.bytes.as_ptr() as *const u8, self.len)) }
     }
 
     pub fn push_str(&mut self, text: &str) -> Result<(), ()> {
         if text.len() > N - self.len {
             return Err(());
         }
-        self.bytes[self.len..self.len + text.len()].copy_from_slice(text.as_bytes());
+        let free = self.bytes[self.len..].as_mut_ptr() as *mut u8;
+        // As many bytes as `text` has are free, and it lies elsewhere.
+        unsafe { std::ptr::copy_nonoverlapping(text.as_ptr(), free, text.len()) };
         self.len += text.len();
         Ok(())
     }
