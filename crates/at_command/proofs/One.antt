@@ -9,7 +9,7 @@ use Rattle.text.specs.Part.{Span}
 use Rattle.text.specs.Reading.{Reading, read, refused, Mark}
 use Rattle.text.specs.says.Part.{placeSays}
 use Rattle.text.specs.declared.part.Place.{Place}
-use Rattle.text.proofs.One.{one-answer}
+use Rattle.text.proofs.One.{one-answer, one-equal}
 use Rattle.at_command.specs.Ccid.{Card}
 use Rattle.at_command.specs.Cntp.{NetTime}
 use Rattle.at_command.specs.Cops.{Name, inLine, inFallback, Operator}
@@ -247,6 +247,7 @@ ok-answer-back : (r : GenericOkAnswer) → answer GenericOkA.Value GenericOkA.Re
 ok-answer-back (GenericOkA.Value v) = refl
 ok-answer-back (GenericOkA.Refused k) = refl
 
+-- one answer: generic_response::GenericOk::from_line
 pub one-ok-answer : (a b : GenericOkAnswer) (p : Reading Mark) → Generic.okSays a ≡ p → Generic.okSays b ≡ p → a ≡ b
 one-ok-answer = one-answer Generic.okSays (answer GenericOkA.Value GenericOkA.Refused okOf) ok-answer-back
 
@@ -254,6 +255,7 @@ error-answer-back : (r : SimErrorAnswer) → answer SimErrorA.Value SimErrorA.Re
 error-answer-back (SimErrorA.Value v) = ap SimErrorA.Value (fault-back v)
 error-answer-back (SimErrorA.Refused k) = refl
 
+-- one answer: generic_response::SimError::from_line
 pub one-error-answer : (a b : SimErrorAnswer) (p : Reading Fault) → Generic.errorSays a ≡ p → Generic.errorSays b ≡ p → a ≡ b
 one-error-answer = one-answer Generic.errorSays (answer SimErrorA.Value SimErrorA.Refused faultOf) error-answer-back
 
@@ -261,6 +263,7 @@ prompt-answer-back : (r : WritePromptAnswer) → answer WritePromptA.Value Write
 prompt-answer-back (WritePromptA.Value v) = refl
 prompt-answer-back (WritePromptA.Refused k) = refl
 
+-- one answer: generic_response::WritePrompt::from_line
 pub one-prompt-answer : (a b : WritePromptAnswer) (p : Reading Mark) → Generic.promptSays a ≡ p → Generic.promptSays b ≡ p → a ≡ b
 one-prompt-answer = one-answer Generic.promptSays (answer WritePromptA.Value WritePromptA.Refused promptOf) prompt-answer-back
 
@@ -268,6 +271,7 @@ close-answer-back : (r : CloseOkAnswer) → answer CloseOkA.Value CloseOkA.Refus
 close-answer-back (CloseOkA.Value v) = refl
 close-answer-back (CloseOkA.Refused k) = refl
 
+-- one answer: generic_response::CloseOk::from_line
 pub one-close-answer : (a b : CloseOkAnswer) (p : Reading ℕ) → Generic.closeSays a ≡ p → Generic.closeSays b ≡ p → a ≡ b
 one-close-answer = one-answer Generic.closeSays (answer CloseOkA.Value CloseOkA.Refused closeOf) close-answer-back
 
@@ -275,6 +279,7 @@ iccid-answer-back : (r : IccidAnswer) → answer IccidA.Value IccidA.Refused car
 iccid-answer-back (IccidA.Value v) = refl
 iccid-answer-back (IccidA.Refused k) = refl
 
+-- one answer: ccid::Iccid::from_line
 pub one-iccid-answer : (a b : IccidAnswer) (p : Reading Card) → Ccid.says a ≡ p → Ccid.says b ≡ p → a ≡ b
 one-iccid-answer = one-answer Ccid.says (answer IccidA.Value IccidA.Refused cardOf) iccid-answer-back
 
@@ -282,6 +287,7 @@ system-answer-back : (r : SystemInfoAnswer) → answer SystemInfoA.Value SystemI
 system-answer-back (SystemInfoA.Value v) = ap SystemInfoA.Value (system-back v)
 system-answer-back (SystemInfoA.Refused k) = refl
 
+-- one answer: cpsi::SystemInfo::from_line
 pub one-system-answer : (a b : SystemInfoAnswer) (p : Reading System) → Cpsi.says a ≡ p → Cpsi.says b ≡ p → a ≡ b
 one-system-answer = one-answer Cpsi.says (answer SystemInfoA.Value SystemInfoA.Refused systemOf) system-answer-back
 
@@ -289,6 +295,7 @@ operator-answer-back : (r : OperatorInfoAnswer) → answer OperatorInfoA.Value O
 operator-answer-back (OperatorInfoA.Value v) = ap OperatorInfoA.Value (operator-back v)
 operator-answer-back (OperatorInfoA.Refused k) = refl
 
+-- one answer: cops::OperatorInfo::from_line
 pub one-operator-answer : (a b : OperatorInfoAnswer) (p : Reading Operator) → Cops.says a ≡ p → Cops.says b ≡ p → a ≡ b
 one-operator-answer = one-answer Cops.says (answer OperatorInfoA.Value OperatorInfoA.Refused operatorOf) operator-answer-back
 
@@ -296,6 +303,7 @@ time-answer-back : (r : NetworkTimeAnswer) → answer NetworkTimeA.Value Network
 time-answer-back (NetworkTimeA.Value v) = ap NetworkTimeA.Value (time-back v)
 time-answer-back (NetworkTimeA.Refused k) = refl
 
+-- one answer: cntp::NetworkTime::from_line
 pub one-time-answer : (a b : NetworkTimeAnswer) (p : Reading NetTime) → Cntp.says a ≡ p → Cntp.says b ≡ p → a ≡ b
 one-time-answer = one-answer Cntp.says (answer NetworkTimeA.Value NetworkTimeA.Refused timeOf) time-answer-back
 
@@ -303,6 +311,7 @@ download-answer-back : (r : DownloadInfoAnswer) → answer DownloadInfoA.Value D
 download-answer-back (DownloadInfoA.Value v) = ap DownloadInfoA.Value (download-back v)
 download-answer-back (DownloadInfoA.Refused k) = refl
 
+-- one answer: httptofs::DownloadInfo::from_line
 pub one-download-answer : (a b : DownloadInfoAnswer) (p : Reading Download) → Httptofs.says a ≡ p → Httptofs.says b ≡ p → a ≡ b
 one-download-answer = one-answer Httptofs.says (answer DownloadInfoA.Value DownloadInfoA.Refused downloadOf) download-answer-back
 
@@ -310,6 +319,7 @@ imei-answer-back : (r : ImeiAnswer) → answer ImeiA.Value ImeiA.Refused imeiOf 
 imei-answer-back (ImeiA.Value v) = refl
 imei-answer-back (ImeiA.Refused k) = refl
 
+-- one answer: gsn::Imei::from_line
 pub one-imei-answer : (a b : ImeiAnswer) (p : Reading Span) → Gsn.says a ≡ p → Gsn.says b ≡ p → a ≡ b
 one-imei-answer = one-answer Gsn.says (answer ImeiA.Value ImeiA.Refused imeiOf) imei-answer-back
 
@@ -317,6 +327,7 @@ format-answer-back : (r : SmsMessageFormatAnswer) → answer SmsMessageFormatA.V
 format-answer-back (SmsMessageFormatA.Value v) = ap SmsMessageFormatA.Value (format-back v)
 format-answer-back (SmsMessageFormatA.Refused k) = refl
 
+-- one answer: cmgf::SmsMessageFormat::from_line
 pub one-format-answer : (a b : SmsMessageFormatAnswer) (p : Reading ℕ) → Cmgf.says a ≡ p → Cmgf.says b ≡ p → a ≡ b
 one-format-answer = one-answer Cmgf.says (answer SmsMessageFormatA.Value SmsMessageFormatA.Refused formatOf) format-answer-back
 
@@ -324,6 +335,7 @@ message-answer-back : (r : SmsMessageAnswer) → answer SmsMessageA.Value SmsMes
 message-answer-back (SmsMessageA.Value v) = refl
 message-answer-back (SmsMessageA.Refused k) = refl
 
+-- one answer: cmgr::SmsMessage::from_line
 pub one-message-answer : (a b : SmsMessageAnswer) (p : Reading Span) → Cmgr.says a ≡ p → Cmgr.says b ≡ p → a ≡ b
 one-message-answer = one-answer Cmgr.says (answer SmsMessageA.Value SmsMessageA.Refused messageOf) message-answer-back
 
@@ -361,10 +373,11 @@ response-back : (r : ResponseCodeAnswer) → answer A.Value A.Refused codeOf (Re
 response-back (A.Value c) = ap A.Value (code-back c)
 response-back (A.Refused k) = refl
 
+-- one answer: ResponseCode::from_checked, ResponseCode::from_line
 pub one-response : (a b : ResponseCodeAnswer) (p : Reading Response) → Response.says a ≡ p → Response.says b ≡ p → a ≡ b
 one-response = one-answer Response.says (answer A.Value A.Refused codeOf) response-back
 
--- `StatusCode::success`
+-- the status of a download
 abbrev successOf : Option ℕ → Success
 successOf none = S.Ok
 successOf (some n) = S.Err (statusOf n)
@@ -373,5 +386,10 @@ success-back : (r : Success) → successOf (Httptofs.successSays r) ≡ r
 success-back S.Ok = refl
 success-back (S.Err c) = ap S.Err (status-back c)
 
+-- one answer: httptofs::StatusCode::success
 pub one-success : (a b : Success) (o : Option ℕ) → Httptofs.successSays a ≡ o → Httptofs.successSays b ≡ o → a ≡ b
 one-success = one-answer Httptofs.successSays successOf success-back
+
+-- one answer: httptofs::StatusCode::number
+pub one-status-number : (c : StatusCode) (a b : ℕ) → a ≡ Httptofs.statusNumber c → b ≡ Httptofs.statusNumber c → a ≡ b
+one-status-number c a b = one-equal a b (Httptofs.statusNumber c)

@@ -25,6 +25,11 @@ encoded-back : (r : Encoded) → encoded (encodedSays r) ≡ r
 encoded-back (E.Size n) = refl
 encoded-back (E.Refused k) = refl
 
+-- the size or the refusal, and the output buffer
+-- one answer: request::Request::encode, ccid::ShowIccid::encode, cmgf::GetSmsMessageFormat::encode, cmgf::SetSmsMessageFormat::encode, cmgr::ReadSms::encode
+-- one answer: cntp::Execute::encode, cntp::SynchronizeNetworkTime::encode, cops::GetOperatorInfo::encode, cops::SetAutomaticOperator::encode
+-- one answer: cops::SetManualOperator::encode, cpsi::GetSystemInfo::encode, csq::GetSignalQuality::encode, gsn::GetImei::encode
+-- one answer: httptofs::DownloadToFileSystem::encode
 pub one-encoded : (a : Asked) (before x y : List ℕ) (r q : Encoded) → Writes a before (encodedSays r) x → Writes a before (encodedSays q) y → (r ≡ q) × (x ≡ y)
 one-encoded a before x y r q f g = (one-answer encodedSays encoded encoded-back r q _ (f .says) (g .says), f .holds ∙ sym (g .holds))
 
@@ -68,9 +73,11 @@ awaits-back : (r : Awaits) → awaits (awaitsSays r) ≡ r
 awaits-back (One a) = ap One (kind-back a)
 awaits-back (Two a b) = rw (kind-back a, kind-back b)
 
+-- one answer: request::Request::awaits
 pub one-awaits : (q : Request) (a b : Awaits) → awaitsSays a ≡ awaitedBy q → awaitsSays b ≡ awaitedBy q → a ≡ b
 one-awaits q a b = one-answer awaitsSays awaits awaits-back a b (awaitedBy q)
 
+-- one answer: ResponseCode::kind
 pub one-kind : (a b : ResponseKind) (k : Kind) → kindSays a ≡ k → kindSays b ≡ k → a ≡ b
 one-kind = one-answer kindSays kind kind-back
 

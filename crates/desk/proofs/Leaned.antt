@@ -14,7 +14,7 @@ use Rattle.desk.specs.Cut.{held, Piece, nothing, blank, overlong, line, 
 use Rattle.desk.specs.Kind.{Sort, response, unsolicited, lineKind}
 use Rattle.desk.specs.Judge.{Overlong, placeOf, sameKind, isOpen, table, judge}
 use Rattle.desk.specs.Rules.{judgePiece}
-use Rattle.desk.specs.Desk.{State, viewOf, countOf, pieceIn, quiet, event, heardOf, textOf, takenOf, fed, allowed, openedWith, opened}
+use Rattle.desk.specs.Desk.{State, newState, resetState, viewOf, countOf, pieceIn, quiet, event, heardOf, textOf, takenOf, fed, allowed, openedWith, opened}
 use Rattle.desk.proofs.Basics.{both, never}
 use Rattle.desk.proofs.Sorting.{table-unsolicited}
 
@@ -62,6 +62,14 @@ pub open-refused : (s : State) (awaited : List Kind) (command : Reading (List �
     → (opened s awaited command out .state ≡ s) × (opened s awaited command out .out ≡ out)
 unfolding opened
 open-refused s awaited command out e = with-refused s awaited (allowed s command) out e
+
+-- ---- a new desk, and one that was reset, is idle and holds nothing: the next byte starts a line
+
+pub new-clear : (viewOf (newState .tray) ≡ held []) × (newState .awaited ≡ [])
+new-clear = (refl, refl)
+
+pub reset-clear : (s : State) → (viewOf (resetState s .tray) ≡ held []) × (resetState s .awaited ≡ [])
+reset-clear s = (refl, refl)
 
 -- ---- the text buffer stays without an event, and at Overlong
 

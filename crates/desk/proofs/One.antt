@@ -116,11 +116,13 @@ desk-back d = ap (λ (c : Command). record { cutter = d .cutter; command = c }) 
 
 -- ---- one answer
 
--- `Desk::new` and `Desk::reset`, at the state that the contract names
+-- at the state that the contract names
+-- one answer: Desk::new, Desk::reset
 pub one-desk : {s : State} (r q : Desk) → stateOf r ≡ s → stateOf q ≡ s → r ≡ q
 one-desk r q e f = sym (desk-back r) ∙ ap deskIn (e ∙ sym f) ∙ desk-back q
 
--- `Desk::open`, with the output buffer
+-- with the output buffer
+-- one answer: Desk::open
 pub one-open : {x : Opened} (r q : OpenedCode) (out out′ : List ℕ) → openedSays r out ≡ x → openedSays q out′ ≡ x → (r ≡ q) × (out ≡ out′)
 one-open r q out out′ e f =
     let g = e ∙ sym f in
@@ -128,7 +130,8 @@ one-open r q out out′ e f =
     let answer : r .answer ≡ q .answer = sym (encoded-back (r .answer)) ∙ ap (λ (y : Opened). encodedIn (y .answer)) g ∙ encoded-back (q .answer) in
     (rw (desk, answer), ap (λ (y : Opened). y .out) g)
 
--- `Desk::feed`, with the text buffer
+-- with the text buffer
+-- one answer: Desk::feed
 pub one-feed : {x : Fed} (r q : FedCode) (text text′ : List ℕ) → fedSays r text ≡ x → fedSays q text′ ≡ x → (r ≡ q) × (text ≡ text′)
 one-feed r q text text′ e f =
     let g = e ∙ sym f in
@@ -136,7 +139,8 @@ one-feed r q text text′ e f =
     let answer : r .answer ≡ q .answer = sym (answer-back (r .answer)) ∙ ap (λ (y : Fed). answerIn (y .answer)) g ∙ answer-back (q .answer) in
     (rw (desk, answer), ap (λ (y : Fed). y .text) g)
 
--- `feed_on`, with the lent array and the text buffer
+-- with the lent array and the text buffer
+-- one answer: feed_on
 pub one-feed-on : {x : Fed} (r q : FedParts) (bytes bytes′ text text′ : List ℕ) → partsSays r bytes text ≡ x → partsSays q bytes′ text′ ≡ x
     → (r ≡ q) × (bytes ≡ bytes′) × (text ≡ text′)
 one-feed-on r q bytes bytes′ text text′ e f =

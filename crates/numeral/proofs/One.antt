@@ -1,4 +1,4 @@
--- The contract of `read` leaves no second answer: `told` has an inverse, and over whole numbers alone two answers to a text have one value.
+-- No second answer meets a contract. `told` has an inverse; and over whole numbers alone two answers of `read` to a text have one value.
 use mathlib.Core.Path.{_≡_, refl, sym, ap, _∙_, subst}
 use mathlib.Core.Bool.{Bool}
 use mathlib.Core.List.{List}
@@ -6,6 +6,8 @@ use mathlib.Core.Option.{Option, none, some}
 use Prim.Native.Nat.{ℕ, _*_, _^_}
 use lib.Ieee.{Float}
 use lib.Ieee.Exact.{HasValue}
+use Rattle.text.proofs.One.{one-equal}
+use Rattle.numeral.specs.Bits.{bitsOf}
 use Rattle.numeral.specs.declared.Numeral.{Numeral}
 use Rattle.numeral.specs.declared.Numeral.the-variants.{Value, Refused}
 use Rattle.numeral.specs.Numeral.{Decimal, floatOf}
@@ -24,8 +26,14 @@ back : (r : Numeral) → r ≡ answer (told r)
 back (Value x) = refl
 back Refused = refl
 
+-- one answer: read
 pub one : (s : List ℕ) (a b : Numeral) → told a ≡ floatOf s → told b ≡ floatOf s → a ≡ b
 one s a b p q = back a ∙ ap answer (p ∙ sym q) ∙ sym (back b)
+
+-- the bits of a float
+-- one answer: bits::bits_of
+pub one-bits : (x : Float) (a b : ℕ) → a ≡ bitsOf x → b ≡ bitsOf x → a ≡ b
+one-bits x a b = one-equal a b (bitsOf x)
 
 -- one sign and one magnitude
 abbrev Alike : Option Float → Option Float → Type 0

@@ -10,10 +10,20 @@ use Rattle.text.specs.declared.reader.FieldReader.{FieldReader}
 pub one-answer : {R P : Type 0} (f : R → P) (g : P → R) → ((r : R) → g (f r) ≡ r) → (a b : R) (p : P) → f a ≡ p → f b ≡ p → a ≡ b
 one-answer f g back a b p h k = sym (back a) ∙ ap g (h ∙ sym k) ∙ back b
 
+-- a contract that says what the answer is equal to
+-- one answer: bytes::find, bytes::has_byte, bytes::count_byte, bytes::starts_with, bytes::is_text, bytes::ends_with, bytes::find_text, bytes::has_text
+-- one answer: bytes::all_within, bytes::all_digits, field::field_start, field::field_count, line::check_line, line::worse_of, part::trim_start
+-- one answer: reader::FieldReader::ended, utf8::is_utf8
+pub one-equal : {R : Type 0} (a b p : R) → a ≡ p → b ≡ p → a ≡ b
+one-equal a b p h k = h ∙ sym k
+
 -- two parts of a line at one place, with the same bytes, are one: they begin at the same byte of memory
+-- one answer: part::part, part::skip, part::before_byte, part::after_byte, part::before_text, part::after_text, part::trim_end, part::trim
+-- one answer: field::field, field::field_and_rest, reader::FieldReader::field, reader::nth_field
 pub one-part : (s t u : RefT (List ℕ)) (a : ℕ) (x : List ℕ) → IsPart s t a x → IsPart s u a x → (now t ≡ now u) × (ptr t ≡ ptr u)
 one-part s t u a x p q = (p .bytes ∙ sym (q .bytes), p .place ∙ sym (q .place))
 
 -- two readers on one line, at one position
+-- one answer: reader::FieldReader::new, reader::FieldReader::next
 pub one-reader : (r q : FieldReader) (s : RefT (List ℕ)) (n : ℕ) → (r .line ≡ s) × (r .at ≡ n) → (q .line ≡ s) × (q .at ≡ n) → r ≡ q
 one-reader r q s n h k i = record { line = (h .0 ∙ sym (k .0)) i; at = (h .1 ∙ sym (k .1)) i }

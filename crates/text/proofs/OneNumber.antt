@@ -25,6 +25,7 @@ back-u8 : (r : ParsedU8) → answer IsU8 NotU8 (saysU8 r) ≡ r
 back-u8 (IsU8 n) = refl
 back-u8 NotU8 = refl
 
+-- one answer: number::parse_u8
 pub one-u8 : (a b : ParsedU8) (o : Option ℕ) → saysU8 a ≡ o → saysU8 b ≡ o → a ≡ b
 one-u8 = one-answer saysU8 (answer IsU8 NotU8) back-u8
 
@@ -32,6 +33,7 @@ back-u16 : (r : ParsedU16) → answer IsU16 NotU16 (saysU16 r) ≡ r
 back-u16 (IsU16 n) = refl
 back-u16 NotU16 = refl
 
+-- one answer: number::parse_u16, number::parse_hex_u16
 pub one-u16 : (a b : ParsedU16) (o : Option ℕ) → saysU16 a ≡ o → saysU16 b ≡ o → a ≡ b
 one-u16 = one-answer saysU16 (answer IsU16 NotU16) back-u16
 
@@ -39,6 +41,7 @@ back-u32 : (r : ParsedU32) → answer IsU32 NotU32 (saysU32 r) ≡ r
 back-u32 (IsU32 n) = refl
 back-u32 NotU32 = refl
 
+-- one answer: number::parse_u32, number::parse_hex_u32
 pub one-u32 : (a b : ParsedU32) (o : Option ℕ) → saysU32 a ≡ o → saysU32 b ≡ o → a ≡ b
 one-u32 = one-answer saysU32 (answer IsU32 NotU32) back-u32
 
@@ -46,6 +49,7 @@ back-u64 : (r : ParsedU64) → answer IsU64 NotU64 (saysU64 r) ≡ r
 back-u64 (IsU64 n) = refl
 back-u64 NotU64 = refl
 
+-- one answer: number::parse_u64
 pub one-u64 : (a b : ParsedU64) (o : Option ℕ) → saysU64 a ≡ o → saysU64 b ≡ o → a ≡ b
 one-u64 = one-answer saysU64 (answer IsU64 NotU64) back-u64
 
@@ -53,5 +57,6 @@ back-i32 : (r : ParsedI32) → answer IsI32 NotI32 (saysI32 r) ≡ r
 back-i32 (IsI32 n) = refl
 back-i32 NotI32 = refl
 
+-- one answer: number::parse_i32
 pub one-i32 : (a b : ParsedI32) (o : Option ℤ) → saysI32 a ≡ o → saysI32 b ≡ o → a ≡ b
 one-i32 = one-answer saysI32 (answer IsI32 NotI32) back-i32

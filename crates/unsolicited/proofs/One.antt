@@ -79,6 +79,7 @@ back-registration : (r : NetworkRegistrationAnswer) → answer N.Value N.Refused
 back-registration (N.Value r) = ap N.Value (back-network r)
 back-registration (N.Refused k) = refl
 
+-- one answer: creg::CReg::from_line, cgreg::CGReg::from_line, cereg::CEReg::from_line, network_registration::NetworkRegistration::from_line
 pub one-registration : (a b : NetworkRegistrationAnswer) (p : Reading Registration) → registrationAnswerSays a ≡ p → registrationAnswerSays b ≡ p → a ≡ b
 one-registration = one-answer registrationAnswerSays (answer N.Value N.Refused network) back-registration
 
@@ -90,6 +91,7 @@ back-date : (r : OptionDateTime) → option Some None dateTime (dateOptionSays r
 back-date (Some d) = refl
 back-date None = refl
 
+-- one answer: ugnsinf::DateTime::new
 pub one-date : (a b : OptionDateTime) (p : Option Date) → dateOptionSays a ≡ p → dateOptionSays b ≡ p → a ≡ b
 one-date = one-answer dateOptionSays (option Some None dateTime) back-date
 
@@ -126,6 +128,7 @@ back-gnss : (r : GnssReportAnswer) → answer R.Value R.Refused report (reportAn
 back-gnss (R.Value r) = ap R.Value (back-report r)
 back-gnss (R.Refused k) = refl
 
+-- one answer: ugnsinf::GnssReport::from_line
 pub one-report : (a b : GnssReportAnswer) (p : Reading G.Report) → reportAnswerSays a ≡ p → reportAnswerSays b ≡ p → a ≡ b
 one-report = one-answer reportAnswerSays (answer R.Value R.Refused report) back-gnss
 
@@ -142,5 +145,6 @@ back-trial : (r : UrcAnswer) → answer A.Value A.Refused urc (urcAnswerSays r) 
 back-trial (A.Value u) = ap A.Value (back-urc u)
 back-trial (A.Refused k) = refl
 
+-- one answer: Urc::from_checked, Urc::from_line
 pub one-urc : (a b : UrcAnswer) (p : Reading U.Unsolicited) → urcAnswerSays a ≡ p → urcAnswerSays b ≡ p → a ≡ b
 one-urc = one-answer urcAnswerSays (answer A.Value A.Refused urc) back-trial

@@ -34,5 +34,6 @@ answer-back : (r : SignalQualityAnswer) → answer (says r) ≡ r
 answer-back (Value q) = ap Value (signal-back q)
 answer-back (Refused k) = refl
 
+-- one answer: csq::SignalQuality::from_line
 pub one-signal-answer : (a b : SignalQualityAnswer) (p : Reading Signal) → says a ≡ p → says b ≡ p → a ≡ b
 one-signal-answer = one-answer says answer answer-back

@@ -15,6 +15,7 @@ use lib.ListN.{drop}
 use Rattle.text.specs.Bytes.{bytes, startsWith, has}
 use Rattle.text.specs.Part.{before, after}
 use Rattle.text.specs.Number.{unsigned}
+use Rattle.text.specs.Line.{lineCheck, checked}
 use Rattle.text.specs.Reading.{Reading, read, refused, only, need}
 use Rattle.text.proofs.Below.{everyBelow, below, eqz, eqz→eq}
 use Rattle.at_command.specs.Csq.{dbmOf, strengthOf, qualityOf, levelOf, Signal, csqCodes, csqRest, csqText, Percent, Less, Strength}
@@ -130,6 +131,14 @@ module _ {A : Type 0} (Q : A → Type 0) where
   need-holds none f h = tt
   need-holds (some b) f h = h b refl
 
+  checked-holds : (reader : List ℕ → Reading A) (s : List ℕ) → Holds (reader s) → Holds (checked reader s)
+  unfolding checked
+  checked-holds reader s = go (eqb (lineCheck s) 0)
+    where
+      go : (t : Bool) → Holds (reader s) → Holds (cond t (reader s) (refused (lineCheck s)))
+      go true h = h
+      go false h = tt
+
 level : (max : ℕ) (f : ℕ → Float) (n : ℕ) (x : Float) → levelOf max f n ≡ some (some x) → (n ≤ max) × (x ≡ f n)
 unfolding levelOf
 level max f n x = go (leb n max) (leb-true n max) (eqb n 99)
@@ -154,5 +163,6 @@ known s =
     let v : (r ≤ 31) × (x ≡ strengthOf r) = level 31 strengthOf r x (rw z at e) in
     record { rssi = r; most = v .0; is = v .1; percent = rw (v .1) (percent r (v .0)) }))))))
 
-pub strength-read : (s : List ℕ) (g : Signal) (x : Float) → csqText s ≡ read g → g .strength ≡ some x → Strength x
-strength-read s g x e = (rw e at (known s)) x
+-- what `from_line` answers
+pub strength-read : (s : List ℕ) (g : Signal) (x : Float) → checked csqText s ≡ read g → g .strength ≡ some x → Strength x
+strength-read s g x e = (rw e at (checked-holds Known csqText s (known s))) x
