@@ -8,11 +8,8 @@ use Rattle.text.specs.Part.{Span, spanOf, before, after}
 use Rattle.text.specs.Code.{Entry, is, codeIn}
 use Rattle.text.specs.Reading.{Reading, read, only, either, need, fitting}
 
-abbrev pub ntpErrors : List Entry
-ntpErrors = is "61" 61 ∷ is "62" 62 ∷ is "63" 63 ∷ is "64" 64 ∷ is "65" 65 ∷ []
-
 abbrev pub ntpCodes : List Entry
-ntpCodes = is "1" 1 ∷ ntpErrors
+ntpCodes = is "1" 1 ∷ is "61" 61 ∷ is "62" 62 ∷ is "63" 63 ∷ is "64" 64 ∷ is "65" 65 ∷ []
 
 pub record NetTime : Type 0 where
   pub code : ℕ

@@ -9,14 +9,22 @@ use Rattle.text.specs.Number.{unsigned}
 use Rattle.text.specs.Code.{Entry, is, codeIn}
 use Rattle.text.specs.Reading.{Reading, read, only}
 
-abbrev pub modemCodes : List Entry
-modemCodes = is "601" 601 ∷ is "602" 602 ∷ is "603" 603 ∷ is "604" 604 ∷ is "620" 620 ∷ []
-
-abbrev pub errorCodes : List Entry
-errorCodes = is "404" 404 ∷ is "408" 408 ∷ is "500" 500 ∷ is "600" 600 ∷ modemCodes
-
 abbrev pub httpCodes : List Entry
-httpCodes = is "100" 100 ∷ is "200" 200 ∷ is "206" 206 ∷ is "400" 400 ∷ errorCodes
+httpCodes =
+    is "100" 100
+    ∷ is "200" 200
+    ∷ is "206" 206
+    ∷ is "400" 400
+    ∷ is "404" 404
+    ∷ is "408" 408
+    ∷ is "500" 500
+    ∷ is "600" 600
+    ∷ is "601" 601
+    ∷ is "602" 602
+    ∷ is "603" 603
+    ∷ is "604" 604
+    ∷ is "620" 620
+    ∷ []
 
 -- what is missing or bad is 0: an unknown code is OtherErrors, which has that number
 abbrev pub orZero : Option ℕ → ℕ

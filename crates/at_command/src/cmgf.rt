@@ -2,6 +2,7 @@
 use crate::request::Encoded;
 use crate::write;
 use text::bytes;
+use text::code;
 use text::line;
 use text::part;
 ghost use mathlib.Core.Path.{_≡_};
@@ -30,13 +31,11 @@ enum FormatCode {
 fn format_of(t: &[u8]) -> FormatCode
     ensures { λ r. ⌜ codeSays r ≡ codeIn messageFormats (now (t .entry)) ⌝ }
 {
-    if bytes::is_text(t, b"0") {
-        return FormatCode::Is(SmsMessageFormat::Pdu);
+    match code::place_in(t, b"0,1") {
+        0 => FormatCode::Is(SmsMessageFormat::Pdu),
+        1 => FormatCode::Is(SmsMessageFormat::Text),
+        _ => FormatCode::Not,
     }
-    if bytes::is_text(t, b"1") {
-        return FormatCode::Is(SmsMessageFormat::Text);
-    }
-    FormatCode::Not
 }
 
 impl SmsMessageFormat {

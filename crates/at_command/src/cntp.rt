@@ -2,6 +2,7 @@
 use crate::request::Encoded;
 use crate::write;
 use text::bytes;
+use text::code;
 use text::line;
 use text::part;
 use text::part::Place;
@@ -10,7 +11,7 @@ ghost use Prim.Native.Nat.{_+_, _≤_};
 ghost use lib.ListN.{drop, length};
 ghost use Rattle.text.specs.Code.{codeIn};
 ghost use Rattle.text.specs.Line.{checked};
-ghost use Rattle.at_command.specs.Cntp.{ntpCodes, ntpErrors, cntpRest, cntpText};
+ghost use Rattle.at_command.specs.Cntp.{ntpCodes, cntpRest, cntpText};
 ghost use Rattle.at_command.specs.Lay.{Lays};
 ghost use Rattle.at_command.specs.Piece.{quoted, decimal};
 ghost use Rattle.at_command.specs.Request.{Writes, commandOf, synchronizeNetworkTime, execute};
@@ -47,34 +48,18 @@ enum NtpCode {
     Not,
 }
 
-fn error_of(t: &[u8]) -> NtpCode
-    ensures { λ r. ⌜ codeSays r ≡ codeIn ntpErrors (now (t .entry)) ⌝ }
-{
-    if bytes::is_text(t, b"61") {
-        return NtpCode::Is(SyncNtpStatusCode::NetworkError);
-    }
-    if bytes::is_text(t, b"62") {
-        return NtpCode::Is(SyncNtpStatusCode::DnsResolutionError);
-    }
-    if bytes::is_text(t, b"63") {
-        return NtpCode::Is(SyncNtpStatusCode::ConnectionError);
-    }
-    if bytes::is_text(t, b"64") {
-        return NtpCode::Is(SyncNtpStatusCode::ServiceResponseError);
-    }
-    if bytes::is_text(t, b"65") {
-        return NtpCode::Is(SyncNtpStatusCode::ServiceResponseTimeout);
-    }
-    NtpCode::Not
-}
-
 fn code_of(t: &[u8]) -> NtpCode
     ensures { λ r. ⌜ codeSays r ≡ codeIn ntpCodes (now (t .entry)) ⌝ }
 {
-    if bytes::is_text(t, b"1") {
-        return NtpCode::Is(SyncNtpStatusCode::Success);
+    match code::place_in(t, b"1,61,62,63,64,65") {
+        0 => NtpCode::Is(SyncNtpStatusCode::Success),
+        1 => NtpCode::Is(SyncNtpStatusCode::NetworkError),
+        2 => NtpCode::Is(SyncNtpStatusCode::DnsResolutionError),
+        3 => NtpCode::Is(SyncNtpStatusCode::ConnectionError),
+        4 => NtpCode::Is(SyncNtpStatusCode::ServiceResponseError),
+        5 => NtpCode::Is(SyncNtpStatusCode::ServiceResponseTimeout),
+        _ => NtpCode::Not,
     }
-    error_of(t)
 }
 
 // Reads what follows the prefix of seven bytes; the time's place is counted from the line's start.

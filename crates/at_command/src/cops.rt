@@ -3,6 +3,7 @@ use crate::request::Encoded;
 use crate::unquoted;
 use crate::write;
 use text::bytes;
+use text::code;
 use text::field;
 use text::line;
 use text::part;
@@ -63,34 +64,24 @@ enum FormatCode {
 fn mode_of(t: &[u8]) -> ModeCode
     ensures { λ r. ⌜ modeSays r ≡ codeIn operatorModes (now (t .entry)) ⌝ }
 {
-    if bytes::is_text(t, b"0") {
-        return ModeCode::Is(OperatorMode::Automatic);
+    match code::place_in(t, b"0,1,2,4") {
+        0 => ModeCode::Is(OperatorMode::Automatic),
+        1 => ModeCode::Is(OperatorMode::Manual),
+        2 => ModeCode::Is(OperatorMode::ManualDeregister),
+        3 => ModeCode::Is(OperatorMode::ManualAutomatic),
+        _ => ModeCode::Not,
     }
-    if bytes::is_text(t, b"1") {
-        return ModeCode::Is(OperatorMode::Manual);
-    }
-    if bytes::is_text(t, b"2") {
-        return ModeCode::Is(OperatorMode::ManualDeregister);
-    }
-    if bytes::is_text(t, b"4") {
-        return ModeCode::Is(OperatorMode::ManualAutomatic);
-    }
-    ModeCode::Not
 }
 
 fn format_of(t: &[u8]) -> FormatCode
     ensures { λ r. ⌜ formatSays r ≡ codeIn operatorFormats (now (t .entry)) ⌝ }
 {
-    if bytes::is_text(t, b"0") {
-        return FormatCode::Is(OperatorFormat::Long);
+    match code::place_in(t, b"0,1,2") {
+        0 => FormatCode::Is(OperatorFormat::Long),
+        1 => FormatCode::Is(OperatorFormat::Short),
+        2 => FormatCode::Is(OperatorFormat::Numeric),
+        _ => FormatCode::Not,
     }
-    if bytes::is_text(t, b"1") {
-        return FormatCode::Is(OperatorFormat::Short);
-    }
-    if bytes::is_text(t, b"2") {
-        return FormatCode::Is(OperatorFormat::Numeric);
-    }
-    FormatCode::Not
 }
 
 // Field n of t, or the lent fallback text when there is none: a part of one of the two.

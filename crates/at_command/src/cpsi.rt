@@ -2,6 +2,7 @@
 use crate::request::Encoded;
 use crate::write;
 use text::bytes;
+use text::code;
 use text::field;
 use text::line;
 use text::part;
@@ -53,40 +54,26 @@ enum OperationCode {
 fn system_of(t: &[u8]) -> SystemCode
     ensures { λ r. ⌜ systemSays r ≡ codeIn systemModes (now (t .entry)) ⌝ }
 {
-    if bytes::is_text(t, b"NO SERVICE") {
-        return SystemCode::Is(SystemMode::NoService);
+    match code::place_in(t, b"NO SERVICE,GSM,LTE CAT-M1,LTE NB-IOT") {
+        0 => SystemCode::Is(SystemMode::NoService),
+        1 => SystemCode::Is(SystemMode::Gsm),
+        2 => SystemCode::Is(SystemMode::LteCatM1),
+        3 => SystemCode::Is(SystemMode::LteNbIot),
+        _ => SystemCode::Not,
     }
-    if bytes::is_text(t, b"GSM") {
-        return SystemCode::Is(SystemMode::Gsm);
-    }
-    if bytes::is_text(t, b"LTE CAT-M1") {
-        return SystemCode::Is(SystemMode::LteCatM1);
-    }
-    if bytes::is_text(t, b"LTE NB-IOT") {
-        return SystemCode::Is(SystemMode::LteNbIot);
-    }
-    SystemCode::Not
 }
 
 fn operation_of(t: &[u8]) -> OperationCode
     ensures { λ r. ⌜ operationSays r ≡ codeIn operationModes (now (t .entry)) ⌝ }
 {
-    if bytes::is_text(t, b"Online") {
-        return OperationCode::Is(OperationMode::Online);
+    match code::place_in(t, b"Online,Offline,Factory Test Mode,Reset,Low Power Mode") {
+        0 => OperationCode::Is(OperationMode::Online),
+        1 => OperationCode::Is(OperationMode::Offline),
+        2 => OperationCode::Is(OperationMode::FactoryTest),
+        3 => OperationCode::Is(OperationMode::Reset),
+        4 => OperationCode::Is(OperationMode::LowPower),
+        _ => OperationCode::Not,
     }
-    if bytes::is_text(t, b"Offline") {
-        return OperationCode::Is(OperationMode::Offline);
-    }
-    if bytes::is_text(t, b"Factory Test Mode") {
-        return OperationCode::Is(OperationMode::FactoryTest);
-    }
-    if bytes::is_text(t, b"Reset") {
-        return OperationCode::Is(OperationMode::Reset);
-    }
-    if bytes::is_text(t, b"Low Power Mode") {
-        return OperationCode::Is(OperationMode::LowPower);
-    }
-    OperationCode::Not
 }
 
 fn system_info(t: &[u8]) -> SystemInfoAnswer

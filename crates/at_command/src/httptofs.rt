@@ -2,6 +2,7 @@
 use crate::request::Encoded;
 use crate::write;
 use text::bytes;
+use text::code;
 use text::line;
 use text::number;
 use text::number::ParsedU64;
@@ -13,7 +14,7 @@ ghost use Rattle.text.specs.Code.{codeIn};
 ghost use Rattle.text.specs.Line.{checked};
 ghost use Rattle.text.specs.Number.{unsigned};
 ghost use Rattle.text.specs.Part.{after};
-ghost use Rattle.at_command.specs.Httptofs.{httpCodes, errorCodes, modemCodes, orZero, downloadOf, httptofsText};
+ghost use Rattle.at_command.specs.Httptofs.{httpCodes, orZero, downloadOf, httptofsText};
 ghost use Rattle.at_command.specs.Lay.{Lays};
 ghost use Rattle.at_command.specs.Piece.{quoted};
 ghost use Rattle.at_command.specs.Request.{Writes, commandOf, downloadToFileSystem};
@@ -86,61 +87,25 @@ impl StatusCode {
     }
 }
 
-fn modem_status(t: &[u8]) -> StatusCode
-    ensures { λ r. ⌜ statusNumber r ≡ orZero (codeIn modemCodes (now (t .entry))) ⌝ }
-{
-    if bytes::is_text(t, b"601") {
-        return StatusCode::NetworkError;
-    }
-    if bytes::is_text(t, b"602") {
-        return StatusCode::NoMemory;
-    }
-    if bytes::is_text(t, b"603") {
-        return StatusCode::DnsError;
-    }
-    if bytes::is_text(t, b"604") {
-        return StatusCode::StackBusy;
-    }
-    if bytes::is_text(t, b"620") {
-        return StatusCode::SslContinue;
-    }
-    StatusCode::OtherErrors
-}
-
-fn error_status(t: &[u8]) -> StatusCode
-    ensures { λ r. ⌜ statusNumber r ≡ orZero (codeIn errorCodes (now (t .entry))) ⌝ }
-{
-    if bytes::is_text(t, b"404") {
-        return StatusCode::NotFound;
-    }
-    if bytes::is_text(t, b"408") {
-        return StatusCode::RequestTimeout;
-    }
-    if bytes::is_text(t, b"500") {
-        return StatusCode::InternalServerError;
-    }
-    if bytes::is_text(t, b"600") {
-        return StatusCode::NotHttpPdu;
-    }
-    modem_status(t)
-}
-
 fn status_of(t: &[u8]) -> StatusCode
     ensures { λ r. ⌜ statusNumber r ≡ orZero (codeIn httpCodes (now (t .entry))) ⌝ }
 {
-    if bytes::is_text(t, b"100") {
-        return StatusCode::Continue;
+    match code::place_in(t, b"100,200,206,400,404,408,500,600,601,602,603,604,620") {
+        0 => StatusCode::Continue,
+        1 => StatusCode::Ok,
+        2 => StatusCode::PartialContent,
+        3 => StatusCode::BadRequest,
+        4 => StatusCode::NotFound,
+        5 => StatusCode::RequestTimeout,
+        6 => StatusCode::InternalServerError,
+        7 => StatusCode::NotHttpPdu,
+        8 => StatusCode::NetworkError,
+        9 => StatusCode::NoMemory,
+        10 => StatusCode::DnsError,
+        11 => StatusCode::StackBusy,
+        12 => StatusCode::SslContinue,
+        _ => StatusCode::OtherErrors,
     }
-    if bytes::is_text(t, b"200") {
-        return StatusCode::Ok;
-    }
-    if bytes::is_text(t, b"206") {
-        return StatusCode::PartialContent;
-    }
-    if bytes::is_text(t, b"400") {
-        return StatusCode::BadRequest;
-    }
-    error_status(t)
 }
 
 fn length_of(t: &[u8]) -> u64

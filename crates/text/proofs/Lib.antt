@@ -1,4 +1,5 @@
 pub mod Below
+pub mod Codes
 pub mod Digits
 pub mod Fields
 pub mod Finding

@@ -12,7 +12,7 @@ one-answer f g back a b p h k = sym (back a) ∙ ap g (h ∙ sym k) ∙ back b
 
 -- a contract that says what the answer is equal to
 -- one answer: bytes::find, bytes::has_byte, bytes::count_byte, bytes::starts_with, bytes::is_text, bytes::ends_with, bytes::find_text, bytes::has_text
--- one answer: bytes::all_within, bytes::all_digits, field::field_start, field::field_count, line::check_line, line::worse_of, part::trim_start
+-- one answer: bytes::all_within, bytes::all_digits, code::place_in, field::field_start, field::field_count, line::check_line, line::worse_of, part::trim_start
 -- one answer: reader::FieldReader::ended, utf8::is_utf8
 pub one-equal : {R : Type 0} (a b p : R) → a ≡ p → b ≡ p → a ≡ b
 one-equal a b p h k = h ∙ sym k

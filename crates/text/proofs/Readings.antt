@@ -11,7 +11,6 @@ use borrow.Author.Tests.{eq-eqb, ne-eqb, le-leb, lt-leb, not-true, not-false}
 use Rattle.text.specs.Bytes.{same, has}
 use Rattle.text.specs.Part.{before, after, trimmed}
 use Rattle.text.specs.Field.{fields, nth}
-use Rattle.text.specs.Code.{Entry, codeIn}
 use Rattle.text.specs.Reading.{Reading, read, refused, only, either, need, sized, fitting, mapped, worse, firstOf}
 
 module _ {A : Type 0} where
@@ -134,19 +133,8 @@ trim-via p bs t s e h = e ∙ ap (trimmed bs) h
 pub via : {A : Type 0} (f : List ℕ → A) (q : A) (t s : List ℕ) → q ≡ f t → t ≡ s → q ≡ f s
 via f q t s e h = e ∙ ap f h
 
--- a code that the text is, and one that it is not
-module _ (t p : List ℕ) (n : ℕ) (es : List Entry) (x : Bool) where
-  pub code-is : (o : Option ℕ) → x ≡ same t p → x ≡ true → o ≡ some n → o ≡ codeIn (record { text = p; number = n } ∷ es) t
-  code-is o e h k = let z : same t p ≡ true = sym e ∙ h in rw z k
-
-  pub code-not : (o : Option ℕ) → x ≡ same t p → x ≡ false → o ≡ codeIn es t → o ≡ codeIn (record { text = p; number = n } ∷ es) t
-  code-not o e h k = let z : same t p ≡ false = sym e ∙ h in rw z k
-
-pub code-none : (t : List ℕ) → none ≡ codeIn [] t
-code-none t = refl
-
 pub ruleset reader =
-    (only-so, only-not, either-so, either-not, unless-so, unless-not, otherwise-so, otherwise-not, either-is, either-else, only-is, only-else, only-least, only-under, sized-so, sized-low, sized-high, fits, too-long, same-via, has-via, before-via, after-via, count-via, field-via, trim-via, code-is, code-not, code-none)
+    (only-so, only-not, either-so, either-not, unless-so, unless-not, otherwise-so, otherwise-not, either-is, either-else, only-is, only-else, only-least, only-under, sized-so, sized-low, sized-high, fits, too-long, same-via, has-via, before-via, after-via, count-via, field-via, trim-via)
 
 -- readers in order of trial: what the next one says decides
 module _ {A B : Type 0} (j : ℕ) (g : A → B) (x : Reading A) (rs : List (Reading B)) where

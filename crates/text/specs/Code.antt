@@ -1,5 +1,5 @@
 -- Codes that are matched as texts: "00" is not "0".
-use Prim.Native.Nat.{ℕ}
+use Prim.Native.Nat.{ℕ, suc}
 use Prim.Native.String.{String}
 use mathlib.Core.Bool.{Bool, true, false, cond}
 use mathlib.Core.List.{List, [], _∷_}
@@ -18,3 +18,8 @@ is t n = record { text = bytes t; number = n }
 abbrev pub codeIn : List Entry → List ℕ → Option ℕ
 codeIn [] t = none
 codeIn (e ∷ es) t = cond (same t (e .text)) (some (e .number)) (codeIn es t)
+
+-- how many texts of a list stand before the first that the text is; as many as the list has where it is none of them
+abbrev pub placeIn : List (List ℕ) → List ℕ → ℕ
+placeIn [] t = 0
+placeIn (s ∷ ss) t = cond (same t s) 0 (suc (placeIn ss t))

@@ -1,28 +1,15 @@
 -- The status and the length of a download. Assumes nothing.
-use mathlib.Core.Path.{_≡_, refl, ap, sym, _∙_}
-use mathlib.Core.Bool.{Bool, true, false}
-use mathlib.Core.List.{List, [], _∷_}
+use mathlib.Core.Path.{_≡_, ap, sym, _∙_}
+use mathlib.Core.List.{List}
 use mathlib.Core.Option.{Option, none, some}
 use Prim.Native.Nat.{ℕ}
-use Rattle.text.specs.Bytes.{same}
-use Rattle.text.specs.Code.{Entry, codeIn}
+use Rattle.text.specs.Code.{codeIn}
 use Rattle.text.specs.Number.{unsigned}
 use Rattle.text.specs.Part.{before, after}
 use Rattle.text.specs.Reading.{Reading, read}
-use Rattle.text.proofs.Readings.{code-is, code-not}
 use borrow.Author.Tests.{eq-eqb, ne-eqb}
 use Rattle.at_command.specs.says.Httptofs.{succeeded}
 use Rattle.at_command.specs.Httptofs.{httpCodes, orZero, Download, downloadOf}
-
-module _ (t p : List ℕ) (n : ℕ) (es : List Entry) (x : Bool) (is : x ≡ same t p) where
-  pub status-is : x ≡ true → n ≡ orZero (codeIn (record { text = p; number = n } ∷ es) t)
-  status-is h = ap orZero (code-is t p n es x (some n) is h refl)
-
-  pub status-not : (k : ℕ) → x ≡ false → k ≡ orZero (codeIn es t) → k ≡ orZero (codeIn (record { text = p; number = n } ∷ es) t)
-  status-not k h e = e ∙ ap orZero (code-not t p n es x (codeIn es t) is h refl)
-
-pub status-none : (t : List ℕ) → 0 ≡ orZero (codeIn [] t)
-status-none t = refl
 
 pub or-is : (n : ℕ) (o : Option ℕ) → some n ≡ o → n ≡ orZero o
 or-is n o e = ap orZero e

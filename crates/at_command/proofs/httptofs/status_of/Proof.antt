@@ -1,65 +1,76 @@
 use borrow.Author.Needs.{needs}
+use mathlib.Core.Path.{refl}
+use Rattle.text.proofs.Codes.{code-at, code-past}
+use Rattle.at_command.specs.Httptofs.{httpCodes}
+use Rattle.at_command.proofs.httptofs.Laws.{or-is, or-zero}
 use Rattle.at_command.proofs.httptofs.status_of.Statement.{statement}
 use Rattle.at_command.proofs.httptofs.status_of.Tie as tie
-use Rattle.at_command.proofs.httptofs.Laws.{status-is, status-not, status-none}
 
-slice-aggregate-is-text : tie.Need-slice-aggregate-is-text
-slice-aggregate-is-text c = search needs
+slice-aggregate-place-in : tie.Need-slice-aggregate-place-in
+slice-aggregate-place-in c = search needs
 
-is-text-requires : tie.Need-is-text-requires
-is-text-requires c κs = search needs
+place-in-requires : tie.Need-place-in-requires
+place-in-requires c κs = search needs
 
 returns : tie.Need-returns
-returns c = search (needs, status-is, status-not, status-none)
-
-slice-aggregate-is-text-2 : tie.Need-slice-aggregate-is-text-2
-slice-aggregate-is-text-2 c = search needs
-
-is-text-requires-2 : tie.Need-is-text-requires-2
-is-text-requires-2 c κs = search needs
+returns c = or-is _ _ (code-at httpCodes _ _ (c .before .place-in .ensures) 0 _ (c .match .keys1) refl)
 
 returns-2 : tie.Need-returns-2
-returns-2 c = search (needs, status-is, status-not, status-none)
-
-slice-aggregate-is-text-3 : tie.Need-slice-aggregate-is-text-3
-slice-aggregate-is-text-3 c = search needs
-
-is-text-requires-3 : tie.Need-is-text-requires-3
-is-text-requires-3 c κs = search needs
+returns-2 c = or-is _ _ (code-at httpCodes _ _ (c .before .place-in .ensures) 1 _ (c .match .keys2) refl)
 
 returns-3 : tie.Need-returns-3
-returns-3 c = search (needs, status-is, status-not, status-none)
-
-slice-aggregate-is-text-4 : tie.Need-slice-aggregate-is-text-4
-slice-aggregate-is-text-4 c = search needs
-
-is-text-requires-4 : tie.Need-is-text-requires-4
-is-text-requires-4 c κs = search needs
+returns-3 c = or-is _ _ (code-at httpCodes _ _ (c .before .place-in .ensures) 2 _ (c .match .keys3) refl)
 
 returns-4 : tie.Need-returns-4
-returns-4 c = search (needs, status-is, status-not, status-none)
-
-error-status-requires : tie.Need-error-status-requires
-error-status-requires c κs = search needs
+returns-4 c = or-is _ _ (code-at httpCodes _ _ (c .before .place-in .ensures) 3 _ (c .match .keys4) refl)
 
 returns-5 : tie.Need-returns-5
-returns-5 c = search (needs, status-is, status-not, status-none)
+returns-5 c = or-is _ _ (code-at httpCodes _ _ (c .before .place-in .ensures) 4 _ (c .match .keys5) refl)
+
+returns-6 : tie.Need-returns-6
+returns-6 c = or-is _ _ (code-at httpCodes _ _ (c .before .place-in .ensures) 5 _ (c .match .keys6) refl)
+
+returns-7 : tie.Need-returns-7
+returns-7 c = or-is _ _ (code-at httpCodes _ _ (c .before .place-in .ensures) 6 _ (c .match .keys7) refl)
+
+returns-8 : tie.Need-returns-8
+returns-8 c = or-is _ _ (code-at httpCodes _ _ (c .before .place-in .ensures) 7 _ (c .match .keys8) refl)
+
+returns-9 : tie.Need-returns-9
+returns-9 c = or-is _ _ (code-at httpCodes _ _ (c .before .place-in .ensures) 8 _ (c .match .keys9) refl)
+
+returns-10 : tie.Need-returns-10
+returns-10 c = or-is _ _ (code-at httpCodes _ _ (c .before .place-in .ensures) 9 _ (c .match .keys10) refl)
+
+returns-11 : tie.Need-returns-11
+returns-11 c = or-is _ _ (code-at httpCodes _ _ (c .before .place-in .ensures) 10 _ (c .match .keys11) refl)
+
+returns-12 : tie.Need-returns-12
+returns-12 c = or-is _ _ (code-at httpCodes _ _ (c .before .place-in .ensures) 11 _ (c .match .keys12) refl)
+
+returns-13 : tie.Need-returns-13
+returns-13 c = or-is _ _ (code-at httpCodes _ _ (c .before .place-in .ensures) 12 _ (c .match .keys13) refl)
+
+returns-14 : tie.Need-returns-14
+returns-14 c = or-zero _ (code-past httpCodes _ _ (c .before .place-in .ensures) (c .match .rest))
 
 pub status-of-spec : {M : Type 1} → statement M
 status-of-spec =
     tie.close
     (tie.spec
-    slice-aggregate-is-text
-    is-text-requires
+    slice-aggregate-place-in
+    place-in-requires
     returns
-    slice-aggregate-is-text-2
-    is-text-requires-2
     returns-2
-    slice-aggregate-is-text-3
-    is-text-requires-3
     returns-3
-    slice-aggregate-is-text-4
-    is-text-requires-4
     returns-4
-    error-status-requires
-    returns-5)
+    returns-5
+    returns-6
+    returns-7
+    returns-8
+    returns-9
+    returns-10
+    returns-11
+    returns-12
+    returns-13
+    returns-14)

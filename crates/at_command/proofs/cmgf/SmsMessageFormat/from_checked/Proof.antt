@@ -18,7 +18,7 @@ starts-with-requires c κs = search needs
 
 returns : tie.Need-returns
 unfolding cmgfText
-returns c = search (reader, got {B = ℕ} codeSays (codeIn messageFormats) Is formatNumber (λ f. refl), lacked {B = ℕ} codeSays (codeIn messageFormats) Not refl)
+returns c = search reader
 
 skip-requires : tie.Need-skip-requires
 skip-requires c κs = search needs
@@ -34,11 +34,11 @@ enum-told c = search needs
 
 returns-2 : tie.Need-returns-2
 unfolding cmgfText
-returns-2 c = search (reader, got {B = ℕ} codeSays (codeIn messageFormats) Is formatNumber (λ f. refl), lacked {B = ℕ} codeSays (codeIn messageFormats) Not refl)
+returns-2 c = search (reader, lacked {B = ℕ} codeSays (codeIn messageFormats) Not refl)
 
 returns-3 : tie.Need-returns-3
 unfolding cmgfText
-returns-3 c = search (reader, got {B = ℕ} codeSays (codeIn messageFormats) Is formatNumber (λ f. refl), lacked {B = ℕ} codeSays (codeIn messageFormats) Not refl)
+returns-3 c = search (reader, got {B = ℕ} codeSays (codeIn messageFormats) Is formatNumber (λ f. refl))
 
 pub from-checked-spec : {M : Type 1} → statement M
 from-checked-spec =
