@@ -373,7 +373,7 @@ response-back : (r : ResponseCodeAnswer) → answer A.Value A.Refused codeOf (Re
 response-back (A.Value c) = ap A.Value (code-back c)
 response-back (A.Refused k) = refl
 
--- one answer: ResponseCode::from_checked, ResponseCode::from_line
+-- one answer: ResponseCode::from_line
 pub one-response : (a b : ResponseCodeAnswer) (p : Reading Response) → Response.says a ≡ p → Response.says b ≡ p → a ≡ b
 one-response = one-answer Response.says (answer A.Value A.Refused codeOf) response-back
 

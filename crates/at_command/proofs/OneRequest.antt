@@ -3,9 +3,9 @@
 use mathlib.Core.Path.{_≡_, refl, ap, sym, _∙_}
 use mathlib.Core.List.{List, [], _∷_}
 use Prim.Native.Nat.{ℕ}
-use Rattle.text.proofs.One.{one-answer}
+use Rattle.text.proofs.One.{one-answer, one-equal}
 use Rattle.text.specs.Reading.{Reading, read, refused}
-use Rattle.at_command.specs.Kind.{Kind, genericOk, simError, writePrompt, closeOk, iccid, signalQuality, systemInfo, operatorInfo, networkTime, downloadInfo, imei, smsMessageFormat, smsMessage}
+use Rattle.at_command.specs.Kind.{Kind, genericOk, simError, writePrompt, closeOk, iccid, signalQuality, systemInfo, operatorInfo, networkTime, downloadInfo, imei, smsMessageFormat, smsMessage, placeOf}
 use Rattle.at_command.specs.Request.{Asked, Writes, answersTo}
 use Rattle.at_command.specs.says.Request.{encodedSays, asked, kindSays, awaitsSays, awaitedBy}
 use Rattle.at_command.specs.declared.request.Encoded.{Encoded}
@@ -17,11 +17,11 @@ use Rattle.at_command.specs.declared.request.ResponseKind.the-variants a
 use Rattle.at_command.specs.declared.request.Awaits.{Awaits}
 use Rattle.at_command.specs.declared.request.Awaits.the-variants.{One, Two}
 
-abbrev encoded : Reading ℕ → Encoded
+abbrev pub encoded : Reading ℕ → Encoded
 encoded (read n) = E.Size n
 encoded (refused k) = E.Refused k
 
-encoded-back : (r : Encoded) → encoded (encodedSays r) ≡ r
+pub encoded-back : (r : Encoded) → encoded (encodedSays r) ≡ r
 encoded-back (E.Size n) = refl
 encoded-back (E.Refused k) = refl
 
@@ -33,7 +33,7 @@ encoded-back (E.Refused k) = refl
 pub one-encoded : (a : Asked) (before x y : List ℕ) (r q : Encoded) → Writes a before (encodedSays r) x → Writes a before (encodedSays q) y → (r ≡ q) × (x ≡ y)
 one-encoded a before x y r q f g = (one-answer encodedSays encoded encoded-back r q _ (f .says) (g .says), f .holds ∙ sym (g .holds))
 
-abbrev kind : Kind → ResponseKind
+abbrev pub kind : Kind → ResponseKind
 kind genericOk = K.GenericOk
 kind simError = K.SimError
 kind writePrompt = K.WritePrompt
@@ -76,6 +76,10 @@ awaits-back (Two a b) = rw (kind-back a, kind-back b)
 -- one answer: request::Request::awaits
 pub one-awaits : (q : Request) (a b : Awaits) → awaitsSays a ≡ awaitedBy q → awaitsSays b ≡ awaitedBy q → a ≡ b
 one-awaits q a b = one-answer awaitsSays awaits awaits-back a b (awaitedBy q)
+
+-- one answer: request::ResponseKind::place
+pub one-place : (k : ResponseKind) (a b : ℕ) → a ≡ placeOf (kindSays k) → b ≡ placeOf (kindSays k) → a ≡ b
+one-place k a b = one-equal a b (placeOf (kindSays k))
 
 -- one answer: ResponseCode::kind
 pub one-kind : (a b : ResponseKind) (k : Kind) → kindSays a ≡ k → kindSays b ≡ k → a ≡ b

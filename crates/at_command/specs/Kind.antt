@@ -1,4 +1,8 @@
 -- The kinds of response, in the Rust's order of trial (document 01, "What the port takes").
+use Prim.Native.Nat.{ℕ}
+use mathlib.Core.List.{List, [], _∷_}
+use lib.ListN.{getD}
+
 pub data Kind : Type 0 where
   genericOk : Kind
   simError : Kind
@@ -13,3 +17,40 @@ pub data Kind : Type 0 where
   imei : Kind
   smsMessageFormat : Kind
   smsMessage : Kind
+
+-- how many kinds are tried before this one
+abbrev pub placeOf : Kind → ℕ
+placeOf genericOk = 0
+placeOf simError = 1
+placeOf writePrompt = 2
+placeOf closeOk = 3
+placeOf iccid = 4
+placeOf signalQuality = 5
+placeOf systemInfo = 6
+placeOf operatorInfo = 7
+placeOf networkTime = 8
+placeOf downloadInfo = 9
+placeOf imei = 10
+placeOf smsMessageFormat = 11
+placeOf smsMessage = 12
+
+-- and the kind at a place
+abbrev pub kinds : List Kind
+kinds =
+    genericOk
+    ∷ simError
+    ∷ writePrompt
+    ∷ closeOk
+    ∷ iccid
+    ∷ signalQuality
+    ∷ systemInfo
+    ∷ operatorInfo
+    ∷ networkTime
+    ∷ downloadInfo
+    ∷ imei
+    ∷ smsMessageFormat
+    ∷ smsMessage
+    ∷ []
+
+unfoldable pub kindAt : ℕ → Kind
+kindAt k = getD kinds k smsMessage

@@ -7,6 +7,7 @@ pub mod Cpsi
 pub mod Csq
 pub mod Generic
 pub mod Gsn
+pub mod Handed
 pub mod Httptofs
 pub mod Kind
 pub mod Lay

@@ -4,6 +4,9 @@ use crate::unquoted;
 use crate::write;
 use text::bytes;
 use text::field;
+use text::handed;
+use text::handed::LineText;
+use text::handed::TextAt;
 use text::line;
 use text::part;
 use text::part::Place;
@@ -11,8 +14,11 @@ use text::reader;
 ghost use mathlib.Core.Path.{_≡_};
 ghost use lib.ListN.{drop};
 ghost use Rattle.text.specs.Field.{fields};
+ghost use Rattle.text.specs.Handed.{IsHanded, HandsOut};
 ghost use Rattle.text.specs.Line.{checked};
+ghost use Rattle.text.specs.says.Handed.{atSays};
 ghost use Rattle.at_command.specs.Cmgr.{cmgrFields, cmgrText};
+ghost use Rattle.at_command.specs.Handed.{senderHanded};
 ghost use Rattle.at_command.specs.Request.{Writes, readSms};
 ghost use Rattle.at_command.specs.says.Cmgr.{says};
 ghost use Rattle.at_command.specs.says.Request.{encodedSays};
@@ -61,6 +67,35 @@ impl SmsMessage {
             return SmsMessageAnswer::Refused(k);
         }
         SmsMessage::from_checked(line)
+    }
+
+    // Where the sender stands in the line.
+    fn sender_at(line: &[u8]) -> TextAt
+        ensures { λ r. ⌜ atSays r ≡ senderHanded (now (line .entry)) ⌝ }
+    {
+        match SmsMessage::from_line(line) {
+            SmsMessageAnswer::Value(v) => handed::in_line(v.sender),
+            SmsMessageAnswer::Refused(k) => handed::nowhere(k),
+        }
+    }
+
+    // The sender; empty where the line is refused.
+    pub fn sender_part(line: &[u8]) -> &[u8]
+        ensures { λ t. ⌜ IsHanded (line .entry) (line .entry) (senderHanded (now (line .entry))) t ⌝ }
+    {
+        handed::cut(SmsMessage::sender_at(line), line, line)
+    }
+
+    // The sender with the number of the refusal.
+    pub fn sender_text<'a>(line: &'a [u8]) -> LineText<'a>
+        ensures { λ r. ⌜ HandsOut (line .entry) (line .entry) (senderHanded (now (line .entry))) (r .text) (r .refusal) ⌝ }
+    {
+        let at = SmsMessage::sender_at(line);
+        let text = handed::cut(at, line, line);
+        LineText {
+            text,
+            refusal: at.refusal,
+        }
     }
 }
 

@@ -3,6 +3,9 @@ use crate::request::Encoded;
 use crate::write;
 use text::bytes;
 use text::code;
+use text::handed;
+use text::handed::LineText;
+use text::handed::TextAt;
 use text::line;
 use text::part;
 use text::part::Place;
@@ -10,12 +13,15 @@ ghost use mathlib.Core.Path.{_≡_};
 ghost use Prim.Native.Nat.{_+_, _≤_};
 ghost use lib.ListN.{drop, length};
 ghost use Rattle.text.specs.Code.{codeIn};
+ghost use Rattle.text.specs.Handed.{IsHanded, HandsOut};
 ghost use Rattle.text.specs.Line.{checked};
+ghost use Rattle.text.specs.says.Handed.{atSays};
 ghost use Rattle.at_command.specs.Cntp.{ntpCodes, cntpRest, cntpText};
+ghost use Rattle.at_command.specs.Handed.{timeIn, timeHanded};
 ghost use Rattle.at_command.specs.Lay.{Lays};
 ghost use Rattle.at_command.specs.Piece.{quoted, decimal};
 ghost use Rattle.at_command.specs.Request.{Writes, commandOf, synchronizeNetworkTime, execute};
-ghost use Rattle.at_command.specs.says.Cntp.{says, codeSays};
+ghost use Rattle.at_command.specs.says.Cntp.{says, codeSays, timeSays};
 ghost use Rattle.at_command.specs.says.Request.{encodedSays};
 
 pub enum SyncNtpStatusCode {
@@ -89,6 +95,16 @@ fn network_time(line: &[u8]) -> NetworkTimeAnswer
     })
 }
 
+// Where a time stands that was read.
+fn place_of(time: TimePlace) -> TextAt
+    ensures { λ r. ⌜ atSays r ≡ timeIn (timeSays time) ⌝ }
+{
+    match time {
+        TimePlace::None => handed::nowhere(0),
+        TimePlace::Some(place) => handed::in_line(place),
+    }
+}
+
 impl NetworkTime {
     pub(crate) fn from_checked(line: &[u8]) -> NetworkTimeAnswer
         ensures { λ r. ⌜ says r ≡ cntpText (now (line .entry)) ⌝ }
@@ -107,6 +123,38 @@ impl NetworkTime {
             return NetworkTimeAnswer::Refused(k);
         }
         NetworkTime::from_checked(line)
+    }
+
+    // Where the time stands in the line.
+    fn time_at(line: &[u8]) -> TextAt
+        ensures { λ r. ⌜ atSays r ≡ timeHanded (now (line .entry)) ⌝ }
+    {
+        match NetworkTime::from_line(line) {
+            NetworkTimeAnswer::Value(v) => {
+                let time = v.time;
+                place_of(time)
+            }
+            NetworkTimeAnswer::Refused(k) => handed::nowhere(k),
+        }
+    }
+
+    // The time; empty where the line has none, or is refused.
+    pub fn time_part(line: &[u8]) -> &[u8]
+        ensures { λ t. ⌜ IsHanded (line .entry) (line .entry) (timeHanded (now (line .entry))) t ⌝ }
+    {
+        handed::cut(NetworkTime::time_at(line), line, line)
+    }
+
+    // The time with the number of the refusal.
+    pub fn time_text<'a>(line: &'a [u8]) -> LineText<'a>
+        ensures { λ r. ⌜ HandsOut (line .entry) (line .entry) (timeHanded (now (line .entry))) (r .text) (r .refusal) ⌝ }
+    {
+        let at = NetworkTime::time_at(line);
+        let text = handed::cut(at, line, line);
+        LineText {
+            text,
+            refusal: at.refusal,
+        }
     }
 }
 

@@ -5,6 +5,9 @@ use crate::write;
 use text::bytes;
 use text::code;
 use text::field;
+use text::handed;
+use text::handed::LineText;
+use text::handed::TextAt;
 use text::line;
 use text::part;
 use text::part::Place;
@@ -14,8 +17,11 @@ ghost use Prim.Native.Nat.{_+_, _≤_};
 ghost use lib.ListN.{drop, length};
 ghost use Rattle.text.specs.Code.{codeIn};
 ghost use Rattle.text.specs.Field.{fields};
+ghost use Rattle.text.specs.Handed.{IsHanded, HandsOut};
 ghost use Rattle.text.specs.Line.{checked};
+ghost use Rattle.text.specs.says.Handed.{atSays};
 ghost use Rattle.at_command.specs.Cops.{operatorModes, operatorFormats, FieldOr, nameOf, copsFields, copsText};
+ghost use Rattle.at_command.specs.Handed.{nameIn, nameHanded};
 ghost use Rattle.at_command.specs.Lay.{Lays};
 ghost use Rattle.at_command.specs.Request.{Writes, commandOf, getOperatorInfo, setManualOperator, setAutomaticOperator};
 ghost use Rattle.at_command.specs.says.Cops.{says, modeSays, formatSays, nameSays};
@@ -126,6 +132,16 @@ fn operator_info<'a>(line: &'a [u8], format: &'a [u8], name: &'a [u8]) -> Operat
     })
 }
 
+// Where a name stands that was read.
+fn place_of(name: OperatorName) -> TextAt
+    ensures { λ r. ⌜ atSays r ≡ nameIn (nameSays name) ⌝ }
+{
+    match name {
+        OperatorName::InLine(place) => handed::in_line(place),
+        OperatorName::InFallback(place) => handed::in_fallback(place),
+    }
+}
+
 impl OperatorInfo {
     pub(crate) fn from_checked<'a>(
         line: &'a [u8],
@@ -148,6 +164,38 @@ impl OperatorInfo {
             return OperatorInfoAnswer::Refused(k);
         }
         OperatorInfo::from_checked(line, format, name)
+    }
+
+    // Where the name stands, in the line or in the text lent for it.
+    fn name_at<'a>(line: &'a [u8], format: &'a [u8], name: &'a [u8]) -> TextAt
+        ensures { λ r. ⌜ atSays r ≡ nameHanded (now (line .entry)) (now (format .entry)) (now (name .entry)) ⌝ }
+    {
+        match OperatorInfo::from_line(line, format, name) {
+            OperatorInfoAnswer::Value(v) => {
+                let name = v.operator_name;
+                place_of(name)
+            }
+            OperatorInfoAnswer::Refused(k) => handed::nowhere(k),
+        }
+    }
+
+    // The name; empty where the line is refused.
+    pub fn name_part<'a>(line: &'a [u8], format: &'a [u8], name: &'a [u8]) -> &'a [u8]
+        ensures { λ t. ⌜ IsHanded (line .entry) (name .entry) (nameHanded (now (line .entry)) (now (format .entry)) (now (name .entry))) t ⌝ }
+    {
+        handed::cut(OperatorInfo::name_at(line, format, name), line, name)
+    }
+
+    // The name with the number of the refusal.
+    pub fn name_text<'a>(line: &'a [u8], format: &'a [u8], name: &'a [u8]) -> LineText<'a>
+        ensures { λ r. ⌜ HandsOut (line .entry) (name .entry) (nameHanded (now (line .entry)) (now (format .entry)) (now (name .entry))) (r .text) (r .refusal) ⌝ }
+    {
+        let at = OperatorInfo::name_at(line, format, name);
+        let text = handed::cut(at, line, name);
+        LineText {
+            text,
+            refusal: at.refusal,
+        }
     }
 }
 

@@ -2,6 +2,9 @@
 use crate::request::Encoded;
 use crate::write;
 use text::bytes;
+use text::handed;
+use text::handed::LineText;
+use text::handed::TextAt;
 use text::line;
 use text::part;
 use text::part::Place;
@@ -10,8 +13,11 @@ ghost use mathlib.Core.Path.{_≡_};
 ghost use Prim.Native.Nat.{_≤_};
 ghost use lib.ListN.{length};
 ghost use Rattle.text.specs.Bytes.{allDigits};
+ghost use Rattle.text.specs.Handed.{IsHanded, HandsOut};
 ghost use Rattle.text.specs.Line.{checked};
+ghost use Rattle.text.specs.says.Handed.{atSays};
 ghost use Rattle.at_command.specs.Gsn.{doubled, checkDigit, imeiText};
+ghost use Rattle.at_command.specs.Handed.{imeiHanded};
 ghost use Rattle.at_command.specs.Request.{Writes, getImei};
 ghost use Rattle.at_command.specs.says.Gsn.{says};
 ghost use Rattle.at_command.specs.says.Request.{encodedSays};
@@ -88,6 +94,35 @@ impl Imei {
             return ImeiAnswer::Refused(k);
         }
         Imei::from_checked(line)
+    }
+
+    // Where the IMEI stands in the line.
+    fn imei_at(line: &[u8]) -> TextAt
+        ensures { λ r. ⌜ atSays r ≡ imeiHanded (now (line .entry)) ⌝ }
+    {
+        match Imei::from_line(line) {
+            ImeiAnswer::Value(v) => handed::in_line(v.imei),
+            ImeiAnswer::Refused(k) => handed::nowhere(k),
+        }
+    }
+
+    // The IMEI; empty where the line is refused.
+    pub fn imei_part(line: &[u8]) -> &[u8]
+        ensures { λ t. ⌜ IsHanded (line .entry) (line .entry) (imeiHanded (now (line .entry))) t ⌝ }
+    {
+        handed::cut(Imei::imei_at(line), line, line)
+    }
+
+    // The IMEI with the number of the refusal.
+    pub fn imei_text<'a>(line: &'a [u8]) -> LineText<'a>
+        ensures { λ r. ⌜ HandsOut (line .entry) (line .entry) (imeiHanded (now (line .entry))) (r .text) (r .refusal) ⌝ }
+    {
+        let at = Imei::imei_at(line);
+        let text = handed::cut(at, line, line);
+        LineText {
+            text,
+            refusal: at.refusal,
+        }
     }
 }
 

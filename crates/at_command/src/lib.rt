@@ -127,8 +127,8 @@ fn later_readers(line: &[u8], j: u8) -> ResponseCodeAnswer
 }
 
 impl ResponseCode {
-    // The trial without the line check, for a caller that has made it.
-    pub fn from_checked(line: &[u8]) -> ResponseCodeAnswer
+    // The trial, without the line check.
+    pub(crate) fn from_checked(line: &[u8]) -> ResponseCodeAnswer
         ensures { λ r. ⌜ says r ≡ responseText (now (line .entry)) ⌝ }
     {
         let j1 = match GenericOk::from_checked(line) {

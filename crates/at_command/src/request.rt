@@ -14,8 +14,9 @@ use crate::csq::GetSignalQuality;
 use crate::gsn::GetImei;
 use crate::httptofs::DownloadToFileSystem;
 ghost use mathlib.Core.Path.{_≡_};
+ghost use Rattle.at_command.specs.Kind.{placeOf};
 ghost use Rattle.at_command.specs.Request.{Writes};
-ghost use Rattle.at_command.specs.says.Request.{encodedSays, asked, awaitsSays, awaitedBy};
+ghost use Rattle.at_command.specs.says.Request.{kindSays, encodedSays, asked, awaitsSays, awaitedBy};
 
 // The size of the command that was written, or the refusal: 5, 6 or 7.
 pub enum Encoded {
@@ -38,6 +39,29 @@ pub enum ResponseKind {
     Imei,
     SmsMessageFormat,
     SmsMessage,
+}
+
+impl ResponseKind {
+    // How many kinds are tried before this one.
+    pub fn place(self) -> u8
+        ensures { λ r. ⌜ r ≡ placeOf (kindSays self) ⌝ }
+    {
+        match self {
+            ResponseKind::GenericOk => 0,
+            ResponseKind::SimError => 1,
+            ResponseKind::WritePrompt => 2,
+            ResponseKind::CloseOk => 3,
+            ResponseKind::Iccid => 4,
+            ResponseKind::SignalQuality => 5,
+            ResponseKind::SystemInfo => 6,
+            ResponseKind::OperatorInfo => 7,
+            ResponseKind::NetworkTime => 8,
+            ResponseKind::DownloadInfo => 9,
+            ResponseKind::Imei => 10,
+            ResponseKind::SmsMessageFormat => 11,
+            ResponseKind::SmsMessage => 12,
+        }
+    }
 }
 
 // The answers that a request awaits, in order.

@@ -37,13 +37,13 @@ checked-read reader l e =
     (λ f. let g = rw f at e in never (cc))
     (both (eqb (lineCheck l) 0))
 
-module _ (l : List ℕ) {u : Unsolicited} (p : Passed urcText l u) where
-  by-trial : (r : Reading Response) → responseText l ≡ r → lineKind l ≡ read unsolicited
-  by-trial (read r) e = absurd (apart .alone l (sym (p .says)) e)
-  by-trial (refused j) e = sym (kind-urc l (p .check) refl (sym e) (p .says))
+module _ (l : List ℕ) {u : Unsolicited} (e : checked urcText l ≡ read u) where
+  by-trial : (r : Reading Response) → checked responseText l ≡ r → lineKind l ≡ read unsolicited
+  by-trial (read r) f = absurd (apart .alone l (sym (checked-read urcText l e .says)) (sym (checked-read responseText l f .says)))
+  by-trial (refused j) f = sym (kind-urc l (sym f) (sym e))
 
 pub accepted-slip : (bytes l : List ℕ) {u : Unsolicited} → Complete bytes l → checked urcText l ≡ read u → Slip bytes l
-accepted-slip bytes l c e = record { complete = c; kind = by-trial l (checked-read urcText l e) (responseText l) refl }
+accepted-slip bytes l c e = record { complete = c; kind = by-trial l e (checked responseText l) refl }
 
 -- ---- a line and its LF
 

@@ -3,7 +3,7 @@ use Prim.Native.Nat.{ℕ}
 use mathlib.Core.Path.{_≡_, refl, sym, ap, subst, _∙_}
 use mathlib.Core.Bool.{Bool, true, false}
 use mathlib.Core.Logic.{⊎-elim}
-use mathlib.Core.List.{List, [], _∷_, _++_}
+use mathlib.Core.List.{List, [], _∷_, _++_, map}
 use mathlib.Core.Option.{Option, none, some}
 use lib.ListN.{length, take, drop}
 use lib.Seq.{take-append-seam}
@@ -17,7 +17,7 @@ use Rattle.desk.specs.Judge.{isOpen}
 use Rattle.desk.specs.Rules.{Seen, Verdict, silent, judgePiece, shown, judgeAll, rulesOf}
 use Rattle.desk.specs.Desk.{Tray, State, viewOf, layAll, stops, countOf, pieceIn, heardOf, textOf, takenOf, verdictOf, Fed, heard, fed, isClear, Opened, opened, openedWith}
 use Rattle.desk.specs.Says.{stateOf, answerSays, fedSays}
-use Rattle.desk.specs.Demand.{FeedCall, Feeds, accepts, Run, Session, takenBy, seenBy, bytesOf, seenOf, Demand3}
+use Rattle.desk.specs.Demand.{FeedCall, Feeds, accepts, Run, Session, takenBy, seenBy, bytesOf, seenOf, Demand3, LentFeed, RunLent, asFeed, Demand3-lent}
 use Rattle.desk.specs.declared.Desk.{Desk}
 use Rattle.desk.proofs.Basics.{both, never}
 use Rattle.desk.proofs.Cutting.{view-lay}
@@ -139,3 +139,23 @@ session-ruled {request} a =
 
 pub demand3 : Demand3
 demand3 request a b t = (session-ruled a ∙ ap (rulesOf (awaitedBy request)) t ∙ sym (session-ruled b), session-ruled a)
+
+-- ---- a lent desk
+
+run-lent : (cs : List LentFeed) (d : Desk) → RunLent d cs → Run d (map asFeed cs)
+unfolding RunLent Run
+run-lent [] d r = tt
+run-lent (c ∷ cs) d r = (r .0, r .1, run-lent cs (c .desk) (r .2))
+
+pub demand3-lent : Demand3-lent
+demand3-lent request a = (
+  record {
+    desk = a .desk;
+    opening = record { first = a .opening .first; second = a .opening .second; out = a .opening .out; answer = record { desk = a .opening .desk; answer = a .opening .answer }; after = a .opening .after };
+    feeds = map asFeed (a .feeds);
+    opens = a .opens;
+    accepted = a .accepted;
+    runs = run-lent (a .feeds) (a .opening .desk) (a .runs);
+  },
+  refl,
+)

@@ -4,15 +4,16 @@ use mathlib.Core.Path.{_≡_, refl, sym, ap, _∙_}
 use mathlib.Core.Bool.{true, false}
 use mathlib.Core.Logic.{⊎-elim}
 use mathlib.Core.List.{List, [], _∷_, _++_}
-use lib.ListN.{length, getD}
+use lib.ListN.{length}
 use lib.Dec.{ltb}
 use borrow.Author.Tests.{ltb-true, eqb-true}
 use Rattle.text.specs.Bytes.{bytes, same, startsWith, endsWith}
 use Rattle.text.specs.Reading.{Reading, read, refused}
-use Rattle.at_command.specs.Kind.{Kind, genericOk, simError, writePrompt, closeOk, iccid, signalQuality, systemInfo, operatorInfo, networkTime, downloadInfo, imei, smsMessageFormat, smsMessage}
+use Rattle.at_command.specs.Kind.{Kind, genericOk, simError, placeOf, kindAt}
+use Rattle.at_command.proofs.KindPlaces.{at-place}
 use Rattle.desk.specs.Cut.{held, Piece, nothing, blank, overlong, line, bare, cutOne, cutAll}
 use Rattle.desk.specs.Kind.{Sort, response, unsolicited, lineKind}
-use Rattle.desk.specs.Judge.{Overlong, placeOf, sameKind, isOpen, table, judge}
+use Rattle.desk.specs.Judge.{Overlong, sameKind, isOpen, table, judge}
 use Rattle.desk.specs.Rules.{judgePiece}
 use Rattle.desk.specs.Desk.{State, newState, resetState, viewOf, countOf, pieceIn, quiet, event, heardOf, textOf, takenOf, fed, allowed, openedWith, opened}
 use Rattle.desk.proofs.Basics.{both, never}
@@ -21,27 +22,8 @@ use Rattle.desk.proofs.Sorting.{table-unsolicited}
 -- ---- the kinds
 
 -- the test of two kinds passes only where they are the same
-kinds : List Kind
-kinds = genericOk ∷ simError ∷ writePrompt ∷ closeOk ∷ iccid ∷ signalQuality ∷ systemInfo ∷ operatorInfo ∷ networkTime ∷ downloadInfo ∷ imei ∷ smsMessageFormat ∷ smsMessage ∷ []
-
-at-place : (k : Kind) → getD kinds (placeOf k) genericOk ≡ k
-unfolding kinds
-at-place genericOk = refl
-at-place simError = refl
-at-place writePrompt = refl
-at-place closeOk = refl
-at-place iccid = refl
-at-place signalQuality = refl
-at-place systemInfo = refl
-at-place operatorInfo = refl
-at-place networkTime = refl
-at-place downloadInfo = refl
-at-place imei = refl
-at-place smsMessageFormat = refl
-at-place smsMessage = refl
-
 pub same-kind : (j k : Kind) → sameKind j k ≡ true → j ≡ k
-same-kind j k e = sym (at-place j) ∙ ap (λ (n : ℕ). getD kinds n genericOk) (eqb-true (placeOf j) (placeOf k) e) ∙ at-place k
+same-kind j k e = sym (at-place j) ∙ ap kindAt (eqb-true (placeOf j) (placeOf k) e) ∙ at-place k
 
 -- ---- a refusing call changes neither the desk nor a lent byte
 

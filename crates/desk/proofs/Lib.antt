@@ -8,6 +8,7 @@ pub mod Demand
 pub mod Slips
 pub mod Apart
 pub mod Accepted
+pub mod Lending
 pub mod Leaned
 pub mod One
 pub mod Example

@@ -3,15 +3,12 @@ use Prim.Native.Nat.{ℕ}
 use mathlib.Core.Path.{_≡_, refl, sym, ap, _∙_}
 use mathlib.Core.List.{List, [], _∷_}
 use Rattle.text.specs.Reading.{Reading, read, refused}
-use Rattle.at_command.specs.Kind.{Kind, genericOk, simError, writePrompt, closeOk, iccid, signalQuality, systemInfo, operatorInfo, networkTime, downloadInfo, imei, smsMessageFormat, smsMessage}
-use Rattle.at_command.specs.says.Request.{kindSays, encodedSays}
-use Rattle.at_command.specs.declared.request.ResponseKind.{ResponseKind}
-use Rattle.at_command.specs.declared.request.ResponseKind.the-variants as K
+use Rattle.at_command.specs.Kind.{Kind}
 use Rattle.at_command.specs.declared.request.Encoded.{Encoded}
-use Rattle.at_command.specs.declared.request.Encoded.the-variants as W
+use Rattle.at_command.proofs.OneRequest.{encoded, encoded-back, kind, kind-back}
 use Rattle.desk.specs.Judge as J
 use Rattle.desk.specs.Desk.{State, Heard, quiet, event, Fed, Opened}
-use Rattle.desk.specs.Says.{awaitedOf, eventSays, answerSays, stateOf, fedSays, partsSays, openedSays}
+use Rattle.desk.specs.Says.{awaitedOf, eventSays, answerSays, stateOf, fedSays, partsSays, openedSays, openedPartsSays, fedLentSays, openedLentSays}
 use Rattle.desk.specs.declared.Event.{Event}
 use Rattle.desk.specs.declared.Event.the-variants as E
 use Rattle.desk.specs.declared.Desk.{Desk}
@@ -22,45 +19,15 @@ use Rattle.desk.specs.declared.feed.FedAnswer.the-variants as F
 use Rattle.desk.specs.declared.feed.Fed.{Fed as FedCode}
 use Rattle.desk.specs.declared.feed.FedParts.{FedParts}
 use Rattle.desk.specs.declared.open.Opened.{Opened as OpenedCode}
+use Rattle.desk.specs.declared.open.OpenedParts.{OpenedParts}
 
 -- ---- read back
-
-kindIn : Kind → ResponseKind
-kindIn genericOk = K.GenericOk
-kindIn simError = K.SimError
-kindIn writePrompt = K.WritePrompt
-kindIn closeOk = K.CloseOk
-kindIn iccid = K.Iccid
-kindIn signalQuality = K.SignalQuality
-kindIn systemInfo = K.SystemInfo
-kindIn operatorInfo = K.OperatorInfo
-kindIn networkTime = K.NetworkTime
-kindIn downloadInfo = K.DownloadInfo
-kindIn imei = K.Imei
-kindIn smsMessageFormat = K.SmsMessageFormat
-kindIn smsMessage = K.SmsMessage
-
-kind-back : (k : ResponseKind) → kindIn (kindSays k) ≡ k
-unfolding kindIn
-kind-back K.GenericOk = refl
-kind-back K.SimError = refl
-kind-back K.WritePrompt = refl
-kind-back K.CloseOk = refl
-kind-back K.Iccid = refl
-kind-back K.SignalQuality = refl
-kind-back K.SystemInfo = refl
-kind-back K.OperatorInfo = refl
-kind-back K.NetworkTime = refl
-kind-back K.DownloadInfo = refl
-kind-back K.Imei = refl
-kind-back K.SmsMessageFormat = refl
-kind-back K.SmsMessage = refl
 
 -- a command awaits at most two answers
 commandIn : List Kind → Command
 commandIn [] = Idle
-commandIn (a ∷ []) = One (kindIn a)
-commandIn (a ∷ b ∷ ks) = Two (kindIn a) (kindIn b)
+commandIn (a ∷ []) = One (kind a)
+commandIn (a ∷ b ∷ ks) = Two (kind a) (kind b)
 
 command-back : (c : Command) → commandIn (awaitedOf c) ≡ c
 unfolding commandIn
@@ -98,15 +65,6 @@ answer-back (F.Refused k) = refl
 answer-back (F.Quiet n) = refl
 answer-back (F.Heard e n size) = ap (λ (x : Event). F.Heard x n size) (event-back e)
 
-encodedIn : Reading ℕ → Encoded
-encodedIn (read n) = W.Size n
-encodedIn (refused k) = W.Refused k
-
-encoded-back : (a : Encoded) → encodedIn (encodedSays a) ≡ a
-unfolding encodedIn
-encoded-back (W.Size n) = refl
-encoded-back (W.Refused k) = refl
-
 deskIn : State → Desk
 deskIn s = record { cutter = record { line = s .tray .bytes; len = s .tray .len }; command = commandIn (s .awaited) }
 
@@ -116,8 +74,8 @@ desk-back d = ap (λ (c : Command). record { cutter = d .cutter; command = c }) 
 
 -- ---- one answer
 
--- at the state that the contract names
--- one answer: Desk::new, Desk::reset
+-- at the state that the contract names: the desk returned or, of `reset_lent`, the one behind the reference
+-- one answer: Desk::new, Desk::reset, Desk::reset_lent
 pub one-desk : {s : State} (r q : Desk) → stateOf r ≡ s → stateOf q ≡ s → r ≡ q
 one-desk r q e f = sym (desk-back r) ∙ ap deskIn (e ∙ sym f) ∙ desk-back q
 
@@ -127,8 +85,18 @@ pub one-open : {x : Opened} (r q : OpenedCode) (out out′ : List ℕ) → opene
 one-open r q out out′ e f =
     let g = e ∙ sym f in
     let desk : r .desk ≡ q .desk = one-desk (r .desk) (q .desk) (ap (λ (y : Opened). y .state) g) refl in
-    let answer : r .answer ≡ q .answer = sym (encoded-back (r .answer)) ∙ ap (λ (y : Opened). encodedIn (y .answer)) g ∙ encoded-back (q .answer) in
+    let answer : r .answer ≡ q .answer = sym (encoded-back (r .answer)) ∙ ap (λ (y : Opened). encoded (y .answer)) g ∙ encoded-back (q .answer) in
     (rw (desk, answer), ap (λ (y : Opened). y .out) g)
+
+-- with the output buffer, at any 257 bytes
+-- one answer: open_on
+pub one-open-on : {x : Opened} (bytes : List ℕ) (len : ℕ) (r q : OpenedParts) (out out′ : List ℕ) → openedPartsSays r bytes len out ≡ x → openedPartsSays q bytes len out′ ≡ x
+    → (r ≡ q) × (out ≡ out′)
+one-open-on bytes len r q out out′ e f =
+    let g = e ∙ sym f in
+    let command : r .command ≡ q .command = sym (command-back (r .command)) ∙ ap (λ (y : Opened). commandIn (y .state .awaited)) g ∙ command-back (q .command) in
+    let answer : r .answer ≡ q .answer = sym (encoded-back (r .answer)) ∙ ap (λ (y : Opened). encoded (y .answer)) g ∙ encoded-back (q .answer) in
+    (rw (command, answer), ap (λ (y : Opened). y .out) g)
 
 -- with the text buffer
 -- one answer: Desk::feed
@@ -149,3 +117,16 @@ one-feed-on r q bytes bytes′ text text′ e f =
     let command : r .command ≡ q .command = sym (command-back (r .command)) ∙ ap (λ (y : Fed). commandIn (y .state .awaited)) g ∙ command-back (q .command) in
     let answer : r .answer ≡ q .answer = sym (answer-back (r .answer)) ∙ ap (λ (y : Fed). answerIn (y .answer)) g ∙ answer-back (q .answer) in
     (rw (len, command, answer), ap (λ (y : Fed). y .state .tray .bytes) g, ap (λ (y : Fed). y .text) g)
+
+-- with the desk behind the reference and the lent buffer
+-- one answer: Desk::open_lent
+pub one-open-lent : {x : Opened} (d d′ : Desk) (r q : Encoded) (out out′ : List ℕ) → openedLentSays d r out ≡ x → openedLentSays d′ q out′ ≡ x → (d ≡ d′) × (r ≡ q) × (out ≡ out′)
+one-open-lent d d′ r q out out′ e f =
+    let one = one-open (record { desk = d; answer = r }) (record { desk = d′; answer = q }) out out′ e f in
+    (ap (λ (y : OpenedCode). y .desk) (one .0), ap (λ (y : OpenedCode). y .answer) (one .0), one .1)
+
+-- one answer: Desk::feed_lent
+pub one-feed-lent : {x : Fed} (d d′ : Desk) (r q : FedAnswer) (text text′ : List ℕ) → fedLentSays d r text ≡ x → fedLentSays d′ q text′ ≡ x → (d ≡ d′) × (r ≡ q) × (text ≡ text′)
+one-feed-lent d d′ r q text text′ e f =
+    let one = one-feed (record { desk = d; answer = r }) (record { desk = d′; answer = q }) text text′ e f in
+    (ap (λ (y : FedCode). y .desk) (one .0), ap (λ (y : FedCode). y .answer) (one .0), one .1)

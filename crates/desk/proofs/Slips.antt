@@ -62,7 +62,7 @@ shown-both : (o : Option Seen) {all struck own : List Seen} → Leaves all struc
 shown-both none r = r
 shown-both (some x) r = keep r
 
-script-leaves : {s : Bool} (k : Script s) (awaited : List Kind) (v : View) → (s ≡ true → v ≡ held [])
+pub script-leaves : {s : Bool} (k : Script s) (awaited : List Kind) (v : View) → (s ≡ true → v ≡ held [])
     → Leaves (judgeAll awaited (cutAll v (allBytes k))) (slipped k) (judgeAll awaited (cutAll v (ownBytes k)))
 unfolding allBytes ownBytes slipped cutAll judgeAll
 script-leaves end awaited v f = S.none

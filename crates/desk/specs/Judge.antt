@@ -5,7 +5,7 @@ use mathlib.Core.List.{List, [], _∷_}
 use lib.ListN.{drop}
 use lib.Dec.{eqb}
 use Rattle.text.specs.Reading.{Reading, read, refused}
-use Rattle.at_command.specs.Kind.{Kind, genericOk, simError, writePrompt, closeOk, iccid, signalQuality, systemInfo, operatorInfo, networkTime, downloadInfo, imei, smsMessageFormat, smsMessage}
+use Rattle.at_command.specs.Kind.{Kind, genericOk, simError, placeOf}
 use Rattle.desk.specs.Kind.{Sort, response, unsolicited, lineKind}
 
 pub data Event : Type 0 where
@@ -22,22 +22,7 @@ abbrev pub isOpen : List Kind → Bool
 isOpen [] = false
 isOpen (k ∷ ks) = true
 
--- how many kinds are tried before this one, in the Rust's order; two kinds are the same where these are
-abbrev pub placeOf : Kind → ℕ
-placeOf genericOk = 0
-placeOf simError = 1
-placeOf writePrompt = 2
-placeOf closeOk = 3
-placeOf iccid = 4
-placeOf signalQuality = 5
-placeOf systemInfo = 6
-placeOf operatorInfo = 7
-placeOf networkTime = 8
-placeOf downloadInfo = 9
-placeOf imei = 10
-placeOf smsMessageFormat = 11
-placeOf smsMessage = 12
-
+-- two kinds are the same where their places in the order of trial are
 abbrev pub sameKind : Kind → Kind → Bool
 sameKind j k = eqb (placeOf j) (placeOf k)
 

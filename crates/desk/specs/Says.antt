@@ -5,6 +5,7 @@ use lib.ListN.{take}
 use Rattle.text.specs.Reading.{Reading, read, refused}
 use Rattle.at_command.specs.Kind.{Kind}
 use Rattle.at_command.specs.says.Request.{kindSays, encodedSays}
+use Rattle.at_command.specs.declared.request.Encoded.{Encoded}
 use Rattle.desk.specs.Cut.{Piece, nothing, blank, overlong, line}
 use Rattle.desk.specs.Kind.{Sort, response, unsolicited}
 use Rattle.desk.specs.Judge as J
@@ -28,6 +29,7 @@ use Rattle.desk.specs.declared.feed.FedAnswer.the-variants as F
 use Rattle.desk.specs.declared.feed.Fed.{Fed as FedCode}
 use Rattle.desk.specs.declared.feed.FedParts.{FedParts}
 use Rattle.desk.specs.declared.open.Opened.{Opened as OpenedCode}
+use Rattle.desk.specs.declared.open.OpenedParts.{OpenedParts}
 
 -- the answers that a command still awaits
 abbrev pub awaitedOf : Command → List Kind
@@ -86,6 +88,16 @@ partsSays r bytes text = record { state = stateIn bytes (r .len) (r .command); a
 
 abbrev pub openedSays : OpenedCode → List ℕ → Opened
 openedSays r out = record { state = stateOf (r .desk); answer = encodedSays (r .answer); out = out }
+
+abbrev pub openedPartsSays : OpenedParts → List ℕ → ℕ → List ℕ → Opened
+openedPartsSays r bytes len out = record { state = stateIn bytes len (r .command); answer = encodedSays (r .answer); out = out }
+
+-- a call on a lent desk says what the call by value says, with the desk that stands behind the reference after it for the one handed back
+abbrev pub fedLentSays : Desk → FedAnswer → List ℕ → Fed
+fedLentSays d r text = fedSays (record { desk = d; answer = r }) text
+
+abbrev pub openedLentSays : Desk → Encoded → List ℕ → Opened
+openedLentSays d r out = openedSays (record { desk = d; answer = r }) out
 
 -- a byte, and a search, with the buffer as it is afterwards
 abbrev pub pushedSays : PushedCode → List ℕ → Pushed

@@ -12,7 +12,7 @@ ghost use mathlib.Core.Bool.{cond};
 ghost use Rattle.at_command.specs.Kind.{simError, genericOk};
 ghost use Rattle.at_command.specs.says.Request.{kindSays};
 ghost use Rattle.desk.specs.Kind.{lineKind};
-ghost use Rattle.desk.specs.Judge.{Failed, Short, placeOf, sameKind, closes, table};
+ghost use Rattle.desk.specs.Judge.{Failed, Short, sameKind, closes, table};
 ghost use Rattle.desk.specs.Says.{awaitedOf, sortSays, rulingSays};
 
 // What a line is.
@@ -28,22 +28,18 @@ pub struct Judged {
     pub event: Event,
 }
 
-// The line check, then the responses, then the unsolicited.
+// The responses, then the unsolicited. Each trial checks the line, and of one that does not pass both say the same.
 pub(crate) fn kind_of(s: &[u8]) -> LineKind
     ensures { λ r. ⌜ sortSays r ≡ lineKind (now (s .entry)) ⌝ }
 {
-    let check = line::check_line(s);
-    if check != 0 {
-        return LineKind::Refused(check);
-    }
-    let response = ResponseCode::from_checked(s);
+    let response = ResponseCode::from_line(s);
     match response {
         ResponseCodeAnswer::Value(code) => {
             let kind = code.kind();
             LineKind::Response(kind)
         }
         ResponseCodeAnswer::Refused(j) => {
-            let urc = Urc::from_checked(s);
+            let urc = Urc::from_line(s);
             match urc {
                 UrcAnswer::Value(_) => LineKind::Unsolicited,
                 UrcAnswer::Refused(k) => {
@@ -55,32 +51,11 @@ pub(crate) fn kind_of(s: &[u8]) -> LineKind
     }
 }
 
-// How many kinds are tried before this one.
-fn place(kind: ResponseKind) -> u8
-    ensures { λ r. ⌜ r ≡ placeOf (kindSays kind) ⌝ }
-{
-    match kind {
-        ResponseKind::GenericOk => 0,
-        ResponseKind::SimError => 1,
-        ResponseKind::WritePrompt => 2,
-        ResponseKind::CloseOk => 3,
-        ResponseKind::Iccid => 4,
-        ResponseKind::SignalQuality => 5,
-        ResponseKind::SystemInfo => 6,
-        ResponseKind::OperatorInfo => 7,
-        ResponseKind::NetworkTime => 8,
-        ResponseKind::DownloadInfo => 9,
-        ResponseKind::Imei => 10,
-        ResponseKind::SmsMessageFormat => 11,
-        ResponseKind::SmsMessage => 12,
-    }
-}
-
 fn same(a: ResponseKind, b: ResponseKind) -> bool
     ensures { λ r. ⌜ r ≡ sameKind (kindSays a) (kindSays b) ⌝ }
 {
-    let i = place(a);
-    let j = place(b);
+    let i = a.place();
+    let j = b.place();
     i == j
 }
 

@@ -7,6 +7,7 @@ mod command;
 mod cutter;
 mod feed;
 mod judge;
+mod lent;
 mod open;
 mod reset;
 
@@ -17,6 +18,8 @@ pub use feed::FedAnswer;
 pub use feed::FedParts;
 pub use feed::feed_on;
 pub use open::Opened;
+pub use open::OpenedParts;
+pub use open::open_on;
 
 pub struct Desk {
     pub cutter: Cutter,

@@ -4,19 +4,20 @@ use at_command::ResponseCode;
 use at_command::ResponseCodeAnswer;
 use at_command::ccid::Iccid;
 use at_command::cmgf::SmsMessageFormat;
+use at_command::cmgr::SmsMessage;
 use at_command::cntp::NetworkTime;
 use at_command::cntp::SyncNtpStatusCode;
 use at_command::cntp::TimePlace;
 use at_command::cops::OperatorFormat;
 use at_command::cops::OperatorInfo;
 use at_command::cops::OperatorMode;
-use at_command::cops::OperatorName;
 use at_command::cpsi::OperationMode;
 use at_command::cpsi::SystemInfo;
 use at_command::cpsi::SystemMode;
 use at_command::csq::SignalLevel;
 use at_command::csq::SignalQuality;
 use at_command::generic_response::SimError;
+use at_command::gsn::Imei;
 use at_command::httptofs::DownloadInfo;
 use at_command::httptofs::StatusCode;
 use console::input;
@@ -55,10 +56,6 @@ fn quoted(out: &mut [u8], at: usize, text: &[u8]) -> usize {
     let a = output::put(out, at, b" \"");
     let b = output::put(out, a, text);
     output::put(out, b, b"\"")
-}
-
-fn text_at(out: &mut [u8], at: usize, line: &[u8], place: Place) -> usize {
-    quoted(out, at, part::part(line, place.start, place.end))
 }
 
 fn sim_error(out: &mut [u8], at: usize, error: SimError) -> usize {
@@ -145,21 +142,13 @@ fn operator_format(out: &mut [u8], at: usize, format: OperatorFormat) -> usize {
     }
 }
 
-// The trial's fallback for the name is empty.
-fn operator_name(out: &mut [u8], at: usize, line: &[u8], name: OperatorName) -> usize {
-    match name {
-        OperatorName::InLine(place) => text_at(out, at, line, place),
-        OperatorName::InFallback(_) => quoted(out, at, b""),
-    }
-}
-
 fn operator_info(out: &mut [u8], at: usize, line: &[u8], info: OperatorInfo) -> usize {
     let mode = info.mode;
     let format = info.format;
-    let name = info.operator_name;
     let a = operator_mode(out, at, mode);
     let b = operator_format(out, a, format);
-    operator_name(out, b, line, name)
+    // with the trial's fallbacks
+    quoted(out, b, OperatorInfo::name_part(line, b"0", b""))
 }
 
 fn ntp_code(out: &mut [u8], at: usize, code: SyncNtpStatusCode) -> usize {
@@ -187,7 +176,7 @@ fn ntp_code(out: &mut [u8], at: usize, code: SyncNtpStatusCode) -> usize {
 
 fn time_text(out: &mut [u8], at: usize, line: &[u8], time: TimePlace) -> usize {
     match time {
-        TimePlace::Some(place) => text_at(out, at, line, place),
+        TimePlace::Some(_) => quoted(out, at, NetworkTime::time_part(line)),
         TimePlace::None => none(out, at),
     }
 }
@@ -228,9 +217,9 @@ fn download_info(out: &mut [u8], at: usize, info: DownloadInfo) -> usize {
     number(out, e, info.data_length)
 }
 
-fn imei(out: &mut [u8], at: usize, line: &[u8], place: Place) -> usize {
+fn imei(out: &mut [u8], at: usize, line: &[u8]) -> usize {
     let e = output::put(out, at, b"Imei");
-    text_at(out, e, line, place)
+    quoted(out, e, Imei::imei_part(line))
 }
 
 fn sms_message_format(out: &mut [u8], at: usize, format: SmsMessageFormat) -> usize {
@@ -240,9 +229,9 @@ fn sms_message_format(out: &mut [u8], at: usize, format: SmsMessageFormat) -> us
     }
 }
 
-fn sms_message(out: &mut [u8], at: usize, line: &[u8], sender: Place) -> usize {
+fn sms_message(out: &mut [u8], at: usize, line: &[u8]) -> usize {
     let e = output::put(out, at, b"SmsMessage");
-    text_at(out, e, line, sender)
+    quoted(out, e, SmsMessage::sender_part(line))
 }
 
 fn response(out: &mut [u8], at: usize, line: &[u8], code: ResponseCode) -> usize {
@@ -257,9 +246,9 @@ fn response(out: &mut [u8], at: usize, line: &[u8], code: ResponseCode) -> usize
         ResponseCode::OperatorInfo(info) => operator_info(out, at, line, info),
         ResponseCode::NetworkTime(time) => network_time(out, at, line, time),
         ResponseCode::DownloadInfo(info) => download_info(out, at, info),
-        ResponseCode::Imei(id) => imei(out, at, line, id.imei),
+        ResponseCode::Imei(_) => imei(out, at, line),
         ResponseCode::SmsMessageFormat(format) => sms_message_format(out, at, format),
-        ResponseCode::SmsMessage(sms) => sms_message(out, at, line, sms.sender),
+        ResponseCode::SmsMessage(_) => sms_message(out, at, line),
     }
 }
 

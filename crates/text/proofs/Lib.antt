@@ -1,8 +1,10 @@
+pub mod Accepts
 pub mod Below
 pub mod Codes
 pub mod Digits
 pub mod Fields
 pub mod Finding
+pub mod HandedLaws
 pub mod LineLaws
 pub mod NumberExamples
 pub mod Numbers

@@ -161,7 +161,7 @@ module _ (bs : List ℕ) where
       go true h = omega arith
       go false h = h
 
-  trim-bytes : (s : List ℕ) → partOf s (trimPlace bs s) (length (trimEnd bs s)) ≡ trimmed bs s
+  pub trim-bytes : (s : List ℕ) → partOf s (trimPlace bs s) (length (trimEnd bs s)) ≡ trimmed bs s
   unfolding trimPlace
   trim-bytes s = go (eqb (leading bs s) (length s)) refl
     where

@@ -1,19 +1,22 @@
 -- UTF-8: the test goes from character to character, and what the functions of src/utf8.rt give at each step.
-use mathlib.Core.Path.{_≡_, refl, ap, sym, _∙_}
+use mathlib.Core.Path.{_≡_, refl, ap, sym, _∙_, subst}
 use mathlib.Core.Bool.{Bool, true, false, cond, _&&_, _||_, not, false≢true, and-eq-true-iff, and-false}
 use mathlib.Core.List.{List, [], _∷_}
-use Prim.Native.Nat.{ℕ, zero, suc, _+_, _-_, _^_, _≤_, _<_}
+use Prim.Native.Nat.{ℕ, zero, suc, _+_, _-_, _*_, _^_, _≤_, _<_}
 use native.Mathlib.Numerals.{add-one}
-use native.Mathlib.Nat.{add-zero, sub-zero}
+use native.Mathlib.Nat.{add-zero, sub-zero, eq-of-mul-eq-mul-right}
 use native.Mathlib.Omega.{arith}
-use lib.Dec.{eqb, leb, ltb}
+use lib.Bits.{bitAnd, and-block}
+use lib.Dec.{T, eqb, leb, ltb, ltb→lt}
 use lib.ListN.{length, getD, take, drop, replicate, length-drop, length-take, length-replicate, drop-of-length-le}
 use lib.Seq.{drop-cons, drop-drop}
-use borrow.Author.Tests.{ne-eqb, ltb-true, le-leb, lt-leb, leb-true}
+use lib.Pow.{pow-pos}
+use borrow.Author.Tests.{ne-eqb, ltb-true, ltb-false, le-leb, lt-leb, leb-true}
 use mir.Val.{Fits}
 use mir.Syntax.{w64}
 use Rattle.text.specs.Bytes.{within}
-use Rattle.text.specs.Utf8.{Range, to, tail, rows, fits, sizeBy, charSize, behind, utf8}
+use Rattle.text.specs.Utf8.{Range, to, tail, rows, fits, sizeBy, charSize, behind, utf8, AsciiIn}
+use Rattle.text.proofs.Below.{below}
 
 module _ (a b : Bool) (h : a && b ≡ true) where
   pub and-left : a ≡ true
@@ -208,13 +211,52 @@ module _ (s : List ℕ) (i : ℕ) (inv : utf8 s ≡ utf8 (drop i s)) where
   unfolding utf8 behind
   utf8-end h = sym (inv ∙ ap utf8 (drop-of-length-le s h))
 
--- `all_ascii`
-module _ (s : List ℕ) (top i : ℕ) (inv : top < 0x80 → utf8 s ≡ utf8 (drop i s)) where
-  pub ascii-larger : i < length s → top < getD s i 0 → getD s i 0 < 0x80 → utf8 s ≡ utf8 (drop (i + 1) s)
-  ascii-larger h k l = utf8-ascii s i (inv (omega arith)) h l
+-- `ascii_front`
+module _ (s : List ℕ) where
+  ascii-join : (a m n : ℕ) → AsciiIn s a m → AsciiIn s (a + m) n → AsciiIn s a (m + n)
+  ascii-join a m n f g k l h = go (ltb k (a + m)) refl
+    where
+      go : (t : Bool) → ltb k (a + m) ≡ t → getD s k 0 < 0x80
+      go true e = f k l (ltb-true k (a + m) e)
+      go false e = g k (ltb-false k (a + m) e) (omega arith)
 
-  pub ascii-more : i < length s → getD s i 0 ≤ top → top < 0x80 → utf8 s ≡ utf8 (drop (i + 1) s)
-  ascii-more h k l = utf8-ascii s i (inv l) h (omega arith)
+  ascii-one : (a : ℕ) → getD s a 0 < 0x80 → AsciiIn s a 1
+  ascii-one a h k l e = let z : k ≡ a = omega arith in rw z h
 
-  pub ascii-end : length s ≤ i → ltb top 0x80 ≡ true → true ≡ utf8 s
-  ascii-end h k = utf8-end s i (inv (ltb-true top 0x80 k)) h
+  pub ascii-run : (a n : ℕ) → a + n ≤ length s → utf8 s ≡ utf8 (drop a s) → AsciiIn s a n → utf8 s ≡ utf8 (drop (a + n) s)
+  ascii-run a zero h inv f = rw add-zero inv
+  ascii-run a (suc n) h inv f =
+      let e : a + suc n ≡ a + n + 1 = omega arith in
+      rw e
+      (utf8-ascii s (a + n) (ascii-run a n (omega arith) inv (λ k l z. f k l (omega arith))) (omega arith) (f (a + n) (omega arith) (omega arith)))
+
+  -- the last n bytes are ASCII, and all but some of them are passed
+  pub ascii-last : (a n i : ℕ) → a + n ≡ length s → a ≤ i → i ≤ length s → utf8 s ≡ utf8 (drop i s) → AsciiIn s a n → utf8 s ≡ utf8 (drop (length s) s)
+  ascii-last a n i e l h inv f =
+      let z : i + (length s - i) ≡ length s = omega arith in
+      rw z at (ascii-run i (length s - i) (omega arith) inv (λ k p q. f k (omega arith) (omega arith)))
+
+-- the bits of a mask m, in both halves of a number
+module _ (k m high low : ℕ) (l : low < 2 ^ k) (n : m < 2 ^ k) (e : bitAnd (high * 2 ^ k + low) (m * 2 ^ k + m) ≡ 0) where
+  halves : bitAnd high m * 2 ^ k + bitAnd low m ≡ 0
+  halves = sym (and-block k high m low m l n) ∙ e
+
+  mask-low : bitAnd low m ≡ 0
+  mask-low = let h = halves in omega arith
+
+  mask-high : bitAnd high m ≡ 0
+  mask-high = let h = halves in eq-of-mul-eq-mul-right (2 ^ k) (pow-pos k) (bitAnd high m) 0 (omega arith)
+
+mask-byte : (x : ℕ) → x < 256 → bitAnd x 0x80 ≡ 0 → x < 0x80
+mask-byte x h e = ltb→lt x 0x80 (subst (λ (n : ℕ). T (ltb 0 n || ltb x 0x80)) e (below 256 (λ x. ltb 0 (bitAnd x 0x80) || ltb x 0x80) tt x h))
+
+-- `two`, `four`, `eight`
+module _ (s : List ℕ) (i : ℕ) where
+  pub ascii-byte : (x : ℕ) → x ≡ getD s i 0 → x < 256 → bitAnd x 0x80 ≡ 0 → AsciiIn s i 1
+  ascii-byte x e l b = ascii-one s i (rw e at (mask-byte x l b))
+
+  pub ascii-halves : (k m n high low : ℕ) → low < 2 ^ k → m < 2 ^ k
+      → (bitAnd low m ≡ 0 → AsciiIn s i n) → (bitAnd high m ≡ 0 → AsciiIn s (i + n) n)
+      → bitAnd (high * 2 ^ k + low) (m * 2 ^ k + m) ≡ 0 → AsciiIn s i (n + n)
+  ascii-halves k m n high low l h f g e =
+      ascii-join s i n n (f (mask-low k m high low l h e)) (g (mask-high k m high low l h e))

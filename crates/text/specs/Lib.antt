@@ -1,6 +1,7 @@
 pub mod Bytes
 pub mod Code
 pub mod Field
+pub mod Handed
 pub mod Line
 pub mod Number
 pub mod Part

@@ -1,10 +1,10 @@
 -- UTF-8 by the grammar of RFC 3629, section 4.
-use Prim.Native.Nat.{ℕ, zero, suc}
+use Prim.Native.Nat.{ℕ, zero, suc, _+_, _≤_, _<_}
 use mathlib.Core.Path.{_≡_}
 use mathlib.Core.Bool.{Bool, true, false, cond, _&&_}
 use mathlib.Core.List.{List, [], _∷_, _++_, List·Memᴰ}
 use lib.Dec.{eqb}
-use lib.ListN.{length, take, drop}
+use lib.ListN.{length, getD, take, drop}
 use Rattle.text.specs.Bytes.{within}
 
 -- a range of bytes, both ends taken in
@@ -68,3 +68,7 @@ behind (suc n) s = behind n (drop (charSize s) s)
 -- a text of n bytes has at most n characters, and nothing stands behind them
 unfoldable pub utf8 : List ℕ → Bool
 utf8 s = eqb (length (behind (length s) s)) 0
+
+-- the n bytes from a on are ASCII (UTF8-1 = %x00-7F)
+abbrev pub AsciiIn : List ℕ → ℕ → ℕ → Type 0
+AsciiIn s a n = (k : ℕ) → a ≤ k → k < a + n → getD s k 0 < 0x80

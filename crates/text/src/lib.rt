@@ -2,6 +2,7 @@
 pub mod bytes;
 pub mod code;
 pub mod field;
+pub mod handed;
 pub mod line;
 pub mod number;
 pub mod part;

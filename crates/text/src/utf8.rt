@@ -1,10 +1,11 @@
 // UTF-8, by the rows of RFC 3629, section 4.
 ghost use mathlib.Core.Path.{_≡_};
-ghost use mathlib.Core.Bool.{cond, true};
+ghost use mathlib.Core.Bool.{cond};
 ghost use mathlib.Core.List.{_∷_};
 ghost use Prim.Native.Nat.{_+_, _-_, _≤_, _<_};
+ghost use lib.Bits.{bitAnd};
 ghost use lib.ListN.{length, take, drop, replicate};
-ghost use Rattle.text.specs.Utf8.{to, tail, fits, charSize, utf8};
+ghost use Rattle.text.specs.Utf8.{to, tail, fits, charSize, utf8, AsciiIn};
 
 // Whether n UTF8-tails stand from a on.
 fn all_tails(s: &[u8], a: usize, n: usize) -> bool
@@ -85,11 +86,12 @@ fn char_size(s: &[u8], i: usize) -> usize
     0
 }
 
-// Whether s is UTF-8, from character to character.
-fn all_chars(s: &[u8]) -> bool
+// Whether s, which is UTF-8 where what stands from a on is, is UTF-8: from character to character.
+fn all_chars(s: &[u8], a: usize) -> bool
+    requires { ⌜ utf8 (now s) ≡ utf8 (drop a (now s)) ⌝ }
     ensures { λ r. ⌜ r ≡ utf8 (now (s .entry)) ⌝ }
 {
-    let mut i = 0;
+    let mut i = a;
     while i < s.len() {
         let n = char_size(s, i);
         if n == 0 {
@@ -100,30 +102,58 @@ fn all_chars(s: &[u8]) -> bool
     true
 }
 
-// Whether all bytes are below 0x80, by the largest of them: a loop with one way out, of which the compiler takes many turns at once.
-fn all_ascii(s: &[u8]) -> bool
-    ensures { λ r. ⌜ (r ≡ true → true ≡ utf8 (now (s .entry))) ⌝ }
+fn wide(x: u8) -> u64
+    ensures { λ r. ⌜ (r ≡ x) × (r < 0x100) ⌝ }
 {
-    let mut top = 0;
-    let mut i = 0;
-    while i < s.len() {
-        let x = s[i];
-        if top < x {
-            top = x;
-            i += 1;
-        } else {
-            i += 1;
-        }
+    x as u64
+}
+
+// Two, four and eight bytes as one number, the first the lowest: the compiler makes one load of them. Their bits of 0x80 tell whether all are ASCII.
+fn two(s: &[u8], i: usize) -> u64
+    requires { ⌜ i + 2 ≤ length (now s) ⌝ }
+    ensures { λ r. ⌜ (r < 0x10000) × (bitAnd r 0x8080 ≡ 0 → AsciiIn (now (s .entry)) i 2) ⌝ }
+{
+    wide(s[i + 1]) * 0x100 + wide(s[i])
+}
+
+fn four(s: &[u8], i: usize) -> u64
+    requires { ⌜ i + 4 ≤ length (now s) ⌝ }
+    ensures { λ r. ⌜ (r < 0x100000000) × (bitAnd r 0x80808080 ≡ 0 → AsciiIn (now (s .entry)) i 4) ⌝ }
+{
+    two(s, i + 2) * 0x10000 + two(s, i)
+}
+
+fn eight(s: &[u8], i: usize) -> u64
+    requires { ⌜ i + 8 ≤ length (now s) ⌝ }
+    ensures { λ r. ⌜ (bitAnd r 0x8080808080808080 ≡ 0 → AsciiIn (now (s .entry)) i 8) ⌝ }
+{
+    four(s, i + 4) * 0x100000000 + four(s, i)
+}
+
+// How many bytes are passed, eight at a time, up to the first eight that are not all ASCII. The last eight may lie over some that are passed.
+fn ascii_front(s: &[u8]) -> usize
+    ensures { λ r. ⌜ utf8 (now (s .entry)) ≡ utf8 (drop r (now (s .entry))) ⌝ }
+{
+    if s.len() < 8 {
+        return 0;
     }
-    top < 0x80
+    let last = s.len() - 8;
+    let mut i = 0;
+    while i <= last {
+        if eight(s, i) & 0x8080808080808080 != 0 {
+            return i;
+        }
+        i += 8;
+    }
+    if eight(s, last) & 0x8080808080808080 != 0 {
+        return i;
+    }
+    s.len()
 }
 
 // Whether s is UTF-8. Most lines are ASCII.
 pub fn is_utf8(s: &[u8]) -> bool
     ensures { λ r. ⌜ r ≡ utf8 (now (s .entry)) ⌝ }
 {
-    if all_ascii(s) {
-        return true;
-    }
-    all_chars(s)
+    all_chars(s, ascii_front(s))
 }

@@ -145,6 +145,6 @@ back-trial : (r : UrcAnswer) → answer A.Value A.Refused urc (urcAnswerSays r) 
 back-trial (A.Value u) = ap A.Value (back-urc u)
 back-trial (A.Refused k) = refl
 
--- one answer: Urc::from_checked, Urc::from_line
+-- one answer: Urc::from_line
 pub one-urc : (a b : UrcAnswer) (p : Reading U.Unsolicited) → urcAnswerSays a ≡ p → urcAnswerSays b ≡ p → a ≡ b
 one-urc = one-answer urcAnswerSays (answer A.Value A.Refused urc) back-trial

@@ -10,6 +10,7 @@ use text::number::ParsedI32;
 use text::number::ParsedU16;
 use text::number::ParsedU32;
 use text::part;
+use text::reader;
 ghost use mathlib.Core.Path.{_≡_};
 ghost use Rattle.text.specs.Field.{fields};
 ghost use Rattle.text.specs.Line.{checked};
@@ -24,11 +25,11 @@ pub struct CEReg;
 fn status_in(rest: &[u8]) -> ParsedI32
     ensures { λ r. ⌜ saysI32 r ≡ signed 10 2147483647 (ceregStatus (fields 44 (now (rest .entry)))) ⌝ }
 {
-    let first = field::field(rest, b',', 0);
+    let first = reader::nth_field(rest, 0);
     if field::field_count(rest, b',') < 2 {
         return number::parse_i32(first);
     }
-    let second = field::field(rest, b',', 1);
+    let second = reader::nth_field(rest, 1);
     if bytes::all_digits(second) {
         return number::parse_i32(second);
     }

@@ -26,8 +26,8 @@ pub enum UrcAnswer {
 }
 
 impl Urc {
-    // For a caller that has checked the line already.
-    pub fn from_checked(line: &[u8]) -> UrcAnswer
+    // The trial, without the line check.
+    pub(crate) fn from_checked(line: &[u8]) -> UrcAnswer
         ensures { λ r. ⌜ says r ≡ urcText (now (line .entry)) ⌝ }
     {
         if let GnssReportAnswer::Value(report) = GnssReport::from_checked(line) {

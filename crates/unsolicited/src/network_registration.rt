@@ -9,6 +9,7 @@ use text::number::ParsedI32;
 use text::number::ParsedU16;
 use text::number::ParsedU32;
 use text::part;
+use text::reader;
 ghost use mathlib.Core.Path.{_≡_};
 ghost use mathlib.Core.List.{[], _∷_};
 ghost use Prim.Native.Nat.{_≤_};
@@ -64,13 +65,13 @@ pub(crate) fn status_of(n: i32) -> RegistrationStatus
 fn lac_at(rest: &[u8], n: usize) -> ParsedU16
     ensures { λ r. ⌜ saysU16 r ≡ hexIn 65535 (nth n (fields 44 (now (rest .entry)))) ⌝ }
 {
-    number::parse_hex_u16(part::trim(field::field(rest, b',', n), b'"'))
+    number::parse_hex_u16(part::trim(reader::nth_field(rest, n), b'"'))
 }
 
 fn ci_at(rest: &[u8], n: usize) -> ParsedU32
     ensures { λ r. ⌜ saysU32 r ≡ hexIn 4294967295 (nth n (fields 44 (now (rest .entry)))) ⌝ }
 {
-    number::parse_hex_u32(part::trim(field::field(rest, b',', n), b'"'))
+    number::parse_hex_u32(part::trim(reader::nth_field(rest, n), b'"'))
 }
 
 // The status in field n, then lac and ci.
@@ -78,7 +79,7 @@ fn registration_at(rest: &[u8], n: usize) -> NetworkRegistrationAnswer
     requires { ⌜ n ≤ 1 ⌝ }
     ensures { λ r. ⌜ says r ≡ registrationAt n (fields 44 (now (rest .entry))) ⌝ }
 {
-    let ParsedI32::Is(status) = number::parse_i32(field::field(rest, b',', n)) else {
+    let ParsedI32::Is(status) = number::parse_i32(reader::nth_field(rest, n)) else {
         return NetworkRegistrationAnswer::Refused(3);
     };
     NetworkRegistrationAnswer::Value(NetworkRegistration {

@@ -1,17 +1,11 @@
--- `kind_of` meets its contract, by what the line check and the two trials say.
+-- `kind_of` meets its contract, by what the two trials say.
 use borrow.Author.Needs.{needs}
-use Rattle.desk.proofs.Sorting.{kind-unchecked, kind-response, kind-urc, kind-none}
+use Rattle.desk.proofs.Sorting.{kind-response, kind-urc, kind-none}
 use Rattle.desk.proofs.judge.kind_of.Statement.{statement}
 use Rattle.desk.proofs.judge.kind_of.Tie as tie
 
-check-line-requires : tie.Need-check-line-requires
-check-line-requires c κs = search needs
-
-returns : tie.Need-returns
-returns c = kind-unchecked _ (c .before .check-line .ensures) (c .if1 .taken)
-
-from-checked-requires : tie.Need-from-checked-requires
-from-checked-requires c κs = search needs
+from-line-requires : tie.Need-from-line-requires
+from-line-requires c κs = search needs
 
 enum-known-response : tie.Need-enum-known-response
 enum-known-response c = search needs
@@ -22,8 +16,8 @@ kind-requires c κs = search needs
 enum-known-response-2 : tie.Need-enum-known-response-2
 enum-known-response-2 c = search needs
 
-from-checked-requires-2 : tie.Need-from-checked-requires-2
-from-checked-requires-2 c κs = search needs
+from-line-requires-2 : tie.Need-from-line-requires-2
+from-line-requires-2 c κs = search needs
 
 enum-told : tie.Need-enum-told
 enum-told c = search needs
@@ -34,33 +28,31 @@ enum-known-urc c = search needs
 worse-of-requires : tie.Need-worse-of-requires
 worse-of-requires c κs = search needs
 
+returns : tie.Need-returns
+returns c = let m = c .before .before .before .before in
+    rw (c .kind .ensures) (kind-response _ (rw (c .before .before .response .given .1) at (m .from-line .ensures)))
+
 returns-2 : tie.Need-returns-2
-returns-2 c = let m = c .before .before .before .before in
-    rw (c .kind .ensures) (kind-response _ (m .before .before .check-line .ensures) (m .before .if1 .left) (rw (c .before .before .response .given .1) at (m .from-checked .ensures)))
+returns-2 c = let m = c .before .before .before .before .before .before in
+    kind-urc _ (rw (c .before .before .before .before .response2 .given .1) at (m .from-line .ensures)) (rw (c .enum-told .given .1) at (c .before .before .from-line2 .ensures))
 
 returns-3 : tie.Need-returns-3
-returns-3 c = let m = c .before .before .before .before .before .before in
-    kind-urc _ (m .before .before .check-line .ensures) (m .before .if1 .left) (rw (c .before .before .before .before .response2 .given .1) at (m .from-checked .ensures)) (rw (c .enum-told .given .1) at (c .before .before .from-checked2 .ensures))
-
-returns-4 : tie.Need-returns-4
-returns-4 c = let u = c .before .before .before .before in
+returns-3 c = let u = c .before .before .before .before in
     let m = u .before .before .before .before in
-    rw (c .worse-of .ensures) (kind-none _ (m .before .before .check-line .ensures) (m .before .if1 .left) (rw (u .before .before .response2 .given .1) at (m .from-checked .ensures)) (rw (c .before .before .urc .given .1) at (u .from-checked2 .ensures)))
+    rw (c .worse-of .ensures) (kind-none _ (rw (u .before .before .response2 .given .1) at (m .from-line .ensures)) (rw (c .before .before .urc .given .1) at (u .from-line2 .ensures)))
 
 pub kind-of-spec : {M : Type 1} → statement M
 kind-of-spec =
     tie.close
     (tie.spec
-    check-line-requires
-    returns
-    from-checked-requires
+    from-line-requires
     enum-known-response
     kind-requires
     enum-known-response-2
-    from-checked-requires-2
+    from-line-requires-2
     enum-told
     enum-known-urc
     worse-of-requires
+    returns
     returns-2
-    returns-3
-    returns-4)
+    returns-3)

@@ -9,10 +9,10 @@ use Rattle.text.proofs.utf8.all_chars.Statement.{statement}
 use Rattle.text.proofs.utf8.all_chars.Tie as tie
 
 abbrev Inv-loop : tie.InvT-loop
-Inv-loop s i₀ i = utf8 s ≡ utf8 (drop i s)
+Inv-loop s a i₀ i = utf8 s ≡ utf8 (drop i s)
 
 abbrev μ-loop : tie.MeasureT-loop
-μ-loop s i₀ i = length s - i
+μ-loop s a i₀ i = length s - i
 
 loop-holds : tie.Need-loop-holds Inv-loop μ-loop
 loop-holds c = search needs

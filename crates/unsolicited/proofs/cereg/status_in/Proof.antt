@@ -3,8 +3,8 @@ use Rattle.unsolicited.proofs.cereg.status_in.Statement.{statement}
 use Rattle.unsolicited.proofs.cereg.status_in.Tie as tie
 use Rattle.unsolicited.proofs.Registrations.{only-first, by-second, by-first}
 
-field-requires : tie.Need-field-requires
-field-requires c κs = search needs
+nth-field-requires : tie.Need-nth-field-requires
+nth-field-requires c κs = search needs
 
 field-count-requires : tie.Need-field-count-requires
 field-count-requires c κs = search needs
@@ -15,8 +15,8 @@ parse-i32-requires c κs = search needs
 returns : tie.Need-returns
 returns c = search (needs, only-first)
 
-field-requires-2 : tie.Need-field-requires-2
-field-requires-2 c κs = search needs
+nth-field-requires-2 : tie.Need-nth-field-requires-2
+nth-field-requires-2 c κs = search needs
 
 all-digits-requires : tie.Need-all-digits-requires
 all-digits-requires c κs = search needs
@@ -37,11 +37,11 @@ pub status-in-spec : {M : Type 1} → statement M
 status-in-spec =
     tie.close
     (tie.spec
-    field-requires
+    nth-field-requires
     field-count-requires
     parse-i32-requires
     returns
-    field-requires-2
+    nth-field-requires-2
     all-digits-requires
     parse-i32-requires-2
     returns-2

@@ -5,8 +5,8 @@ use Rattle.text.proofs.Readings.{reader}
 use Rattle.text.proofs.Numbers.{numbers}
 use Rattle.unsolicited.specs.Registration.{hexIn}
 
-field-requires : tie.Need-field-requires
-field-requires c κs = search needs
+nth-field-requires : tie.Need-nth-field-requires
+nth-field-requires c κs = search needs
 
 trim-requires : tie.Need-trim-requires
 trim-requires c κs = search needs
@@ -19,4 +19,4 @@ unfolding hexIn
 returns c = search (reader, numbers)
 
 pub lac-at-spec : {M : Type 1} → statement M
-lac-at-spec = tie.close (tie.spec field-requires trim-requires parse-hex-u16-requires returns)
+lac-at-spec = tie.close (tie.spec nth-field-requires trim-requires parse-hex-u16-requires returns)

@@ -6,8 +6,8 @@ use Rattle.text.proofs.Numbers.{numbers}
 use Rattle.unsolicited.specs.Registration.{registrationAt}
 use Rattle.unsolicited.proofs.Registrations.{registry}
 
-field-requires : tie.Need-field-requires
-field-requires c κs = search needs
+nth-field-requires : tie.Need-nth-field-requires
+nth-field-requires c κs = search needs
 
 parse-i32-requires : tie.Need-parse-i32-requires
 parse-i32-requires c κs = search needs
@@ -45,7 +45,7 @@ pub registration-at-spec : {M : Type 1} → statement M
 registration-at-spec =
     tie.close
     (tie.spec
-    field-requires
+    nth-field-requires
     parse-i32-requires
     enum-known-status
     enum-told

@@ -1,0 +1,27 @@
+-- A feed of an idle desk: what the benchmark's call leaves in each part that it is lent.
+use Prim.Native.Nat.{ℕ}
+use mathlib.Core.List.{List, [], _∷_}
+use Rattle.text.specs.Reading.{Reading, read, refused}
+use Rattle.desk.specs.Desk.{State, Heard, quiet, event, Fed, fed}
+
+pub record Left : Type 0 where
+  pub answer : ℕ
+  pub line : List ℕ
+  pub len : ℕ
+  pub text : List ℕ
+  pub told : List ℕ
+
+abbrev pub left : ℕ → List ℕ → ℕ → List ℕ → List ℕ → Left
+left answer line len text told = record { answer = answer; line = line; len = len; text = text; told = told }
+
+abbrev pub idle : List ℕ → ℕ → State
+idle line len = record { tray = record { bytes = line; len = len }; awaited = [] }
+
+-- the desk's own feed: a refusal leaves all as before; else the answer is 1 with an event and 0 without one
+abbrev pub leftBy : Reading Heard → Fed → Left → Left
+leftBy (refused k) f before = record { answer = k; line = before .line; len = before .len; text = before .text; told = before .told }
+leftBy (read (quiet n)) f before = left 0 (f .state .tray .bytes) (f .state .tray .len) (f .text) (n ∷ 0 ∷ [])
+leftBy (read (event e n size)) f before = left 1 (f .state .tray .bytes) (f .state .tray .len) (f .text) (n ∷ size ∷ [])
+
+unfoldable pub feeds : List ℕ → ℕ → List ℕ → List ℕ → List ℕ → Left
+feeds line len chunk text told = leftBy (fed (idle line len) chunk text .answer) (fed (idle line len) chunk text) (left 0 line len text told)

@@ -1,0 +1,54 @@
+// A feed by value for oracle/bench: an idle desk is made of its parts, fed, and taken apart again, beside the call that lends the parts.
+use desk::Command;
+use desk::Cutter;
+use desk::Desk;
+use desk::FedAnswer;
+ghost use mathlib.Core.Path.{_≡_};
+ghost use Rattle.bench.specs.Bench.{left, feeds};
+
+// 10, with all as before; or 1 with an event and 0 without one, and told has the bytes taken and the size of the line in text.
+#[no_mangle]
+pub extern "C" fn bench_feed(
+    line: &mut [u8; 257],
+    len: &mut usize,
+    chunk: &[u8],
+    text: &mut [u8],
+    told: &mut [usize; 2],
+) -> u8
+    ensures { λ r. ⌜ left r (now (line .exit)) (now (len .exit)) (now (text .exit)) (now (told .exit)) ≡ feeds (now (line .entry)) (now (len .entry)) (now (chunk .entry)) (now (text .entry)) (now (told .entry)) ⌝ }
+{
+    let bytes = *line;
+    let held = *len;
+    let desk = Desk {
+        cutter: Cutter {
+            line: bytes,
+            len: held,
+        },
+        command: Command::Idle,
+    };
+    let fed = desk.feed(chunk, text);
+    let after = fed.desk;
+    let cutter = after.cutter;
+    let answer = fed.answer;
+    match answer {
+        FedAnswer::Refused(k) => k,
+        FedAnswer::Quiet(taken) => {
+            let line_after = cutter.line;
+            *line = line_after;
+            *len = cutter.len;
+            *told = [taken, 0];
+            0
+        }
+        FedAnswer::Heard {
+            event: _,
+            taken,
+            size,
+        } => {
+            let line_after = cutter.line;
+            *line = line_after;
+            *len = cutter.len;
+            *told = [taken, size];
+            1
+        }
+    }
+}

@@ -1,0 +1,4 @@
+// The show program on a command that fails.
+fn main() {
+    showing::run();
+}

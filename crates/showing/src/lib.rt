@@ -1,0 +1,118 @@
+// What the show programs do: standard input goes to a desk with AT+CSQ open, and each event is printed with its line.
+use at_command::Encoded;
+use at_command::Request;
+use console::output;
+use desk::Command;
+use desk::Desk;
+use desk::Event;
+use desk::Fed;
+use desk::FedAnswer;
+use libc::STDIN_FILENO;
+use text::part;
+ghost use mathlib.Core.Path.{_≡_};
+ghost use Rattle.desk.specs.Desk.{fed};
+ghost use Rattle.desk.specs.Says.{stateOf, fedSays};
+
+// A line of output: a word, and the bytes behind it.
+fn print(word: &[u8], rest: &[u8]) {
+    let mut out = [0u8; 512];
+    let a = output::put(&mut out, 0, word);
+    let b = output::put(&mut out, a, rest);
+    let e = output::put(&mut out, b, b"\n");
+    output::flush(&out, e);
+}
+
+fn print_stray(number: u8, line: &[u8]) {
+    let mut out = [0u8; 512];
+    let a = output::put(&mut out, 0, b"stray ");
+    let b = output::put_decimal(&mut out, a, number as u64);
+    let c = output::put(&mut out, b, b" ");
+    let d = output::put(&mut out, c, line);
+    let e = output::put(&mut out, d, b"\n");
+    output::flush(&out, e);
+}
+
+fn say(event: Event, line: &[u8]) {
+    match event {
+        Event::Overlong => print(b"overlong", b""),
+        Event::Stray(number) => print_stray(number, line),
+        Event::Failed => print(b"failed ", line),
+        Event::Taken => print(b"taken ", line),
+        Event::Done => print(b"done ", line),
+        Event::Short => print(b"short ", line),
+        Event::Unsolicited => print(b"unsolicited ", line),
+    }
+}
+
+// The desk is held in a local, lent to the call that alters it, and handed on.
+fn lend(desk: Desk, chunk: &[u8], text: &mut [u8]) -> Fed
+    ensures { λ r. ⌜ fedSays r (now (text .exit)) ≡ fed (stateOf desk) (now (chunk .entry)) (now (text .entry)) ⌝ }
+{
+    let mut d = desk;
+    let answer = d.feed_lent(chunk, text);
+    Fed {
+        desk: d,
+        answer: answer,
+    }
+}
+
+// Feeds a chunk, event by event.
+fn drain(desk: Desk, chunk: &[u8]) -> Desk {
+    let mut d = desk;
+    let mut text = [0u8; 256];
+    let mut at = 0;
+    while at < chunk.len() {
+        let fed = lend(d, part::skip(chunk, at), &mut text);
+        let after = fed.desk;
+        d = after;
+        let answer = fed.answer;
+        let FedAnswer::Heard { event, taken, size } = answer else {
+            return d;
+        };
+        say(event, part::part(&text, 0, size));
+        if taken == 0 {
+            return d;
+        }
+        if chunk.len() - at < taken {
+            return d;
+        }
+        at += taken;
+    }
+    d
+}
+
+fn end(command: Command) {
+    match command {
+        Command::Idle => print(b"end idle", b""),
+        Command::One(_) => print(b"end open", b""),
+        Command::Two(_, _) => print(b"end open", b""),
+    }
+}
+
+pub fn run() {
+    let mut command = [0u8; 256];
+    let opened = Desk::new().open(Request::GetSignalQuality, b"", b"", &mut command);
+    let answer = opened.answer;
+    let Encoded::Size(n) = answer else {
+        return;
+    };
+    print(
+        b"open ",
+        part::trim_end(part::part(&command, 0, n), b'\r', b'\r'),
+    );
+    let mut d = opened.desk;
+    let mut buffer = io::large_buffer();
+    // the input is longer than no counter: each turn reads a byte
+    let mut turns = u64::MAX;
+    while 0 < turns {
+        let got = libc::read(STDIN_FILENO, &mut buffer);
+        let n = io::count(got, &buffer);
+        if n == 0 {
+            let command = d.command;
+            end(command);
+            return;
+        }
+        d = drain(d, part::part(&buffer, 0, n));
+        turns -= 1;
+    }
+}

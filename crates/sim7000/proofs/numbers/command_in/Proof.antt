@@ -1,0 +1,42 @@
+-- `command_in` meets its contract, by the ranges of the number.
+use Rattle.sim7000.proofs.Commands.{awaited-none, awaited-one, awaited-two, awaited-past}
+use borrow.Author.Needs.{needs}
+use Rattle.sim7000.proofs.numbers.command_in.Statement.{statement}
+use Rattle.sim7000.proofs.numbers.command_in.Tie as tie
+
+returns : tie.Need-returns
+returns c = awaited-none _ (c .if1 .taken)
+
+sub-kind-at : tie.Need-sub-kind-at
+sub-kind-at c = search needs
+
+kind-at-requires : tie.Need-kind-at-requires
+kind-at-requires c κs = search needs
+
+returns-2 : tie.Need-returns-2
+returns-2 c = awaited-one _ (c .before .before .if1 .left) (c .before .if2 .taken) (c .kind-at .ensures)
+
+kind-at-requires-2 : tie.Need-kind-at-requires-2
+kind-at-requires-2 c κs = search needs
+
+kind-at-requires-3 : tie.Need-kind-at-requires-3
+kind-at-requires-3 c κs = search needs
+
+returns-3 : tie.Need-returns-3
+returns-3 c = awaited-two _ (c .before .before .before .before .if1 .left) (c .before .before .before .if2 .left) (c .before .before .if3 .taken) (c .before .kind-at2 .ensures) (c .kind-at3 .ensures)
+
+returns-4 : tie.Need-returns-4
+returns-4 c = awaited-past _ (c .before .before .if1 .left) (c .before .if2 .left) (c .if3 .left)
+
+pub command-in-spec : {M : Type 1} → statement M
+command-in-spec =
+    tie.close
+    (tie.spec
+    returns
+    sub-kind-at
+    kind-at-requires
+    returns-2
+    kind-at-requires-2
+    kind-at-requires-3
+    returns-3
+    returns-4)

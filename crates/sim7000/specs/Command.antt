@@ -1,0 +1,84 @@
+-- The requests by number, and what a call that writes a command leaves (document 01, "Refusal numbers").
+use Prim.Native.Nat.{ℕ}
+use mathlib.Core.Bool.{cond}
+use mathlib.Core.List.{List, [], _∷_}
+use mathlib.Core.Option.{Option, none, some}
+use lib.Dec.{leb}
+use lib.ListN.{length, getD}
+use Rattle.text.specs.Reading.{Reading, read, refused}
+use Rattle.at_command.specs.Request.{Asked, getSignalQuality, showIccid, getImei, getOperatorInfo, setManualOperator, setAutomaticOperator, getSystemInfo, synchronizeNetworkTime, execute, downloadToFileSystem, getSmsMessageFormat, setSmsMessageFormat, readSms, answersTo, encodeReading, written}
+use Rattle.desk.specs.Desk.{Opened, opened}
+use Rattle.sim7000.specs.Parts.{deskIn, numbersOf}
+
+-- ---- the requests
+
+-- a message format is 0 or 1
+unfoldable pub formatAsked : ℕ → Option Asked
+formatAsked code = cond (leb code 1) (some (setSmsMessageFormat code)) none
+
+-- counted from 0, each with the numbers and the texts that it has of those lent
+abbrev pub requests : ℕ → ℕ → List ℕ → List ℕ → List (Option Asked)
+requests number code first second =
+    some getSignalQuality
+    ∷ some showIccid
+    ∷ some getImei
+    ∷ some getOperatorInfo
+    ∷ some (setManualOperator first)
+    ∷ some setAutomaticOperator
+    ∷ some getSystemInfo
+    ∷ some (synchronizeNetworkTime first number code)
+    ∷ some execute
+    ∷ some (downloadToFileSystem first second)
+    ∷ some getSmsMessageFormat
+    ∷ formatAsked code
+    ∷ some (readSms code)
+    ∷ []
+
+-- the request of that number; none where there is no such request
+unfoldable pub askedBy : ℕ → ℕ → ℕ → List ℕ → List ℕ → Option Asked
+askedBy request number code first second = getD (requests number code first second) request none
+
+-- ---- write
+
+-- the answer of `sim7000_write_command`, 0 or the refusal, and what it leaves in `out` and `size`
+pub record WriteLeft : Type 0 where
+  pub answer : ℕ
+  pub out : List ℕ
+  pub size : ℕ
+
+abbrev pub writeLeft : ℕ → List ℕ → ℕ → WriteLeft
+writeLeft answer out size = record { answer = answer; out = out; size = size }
+
+abbrev pub writeLeaves : Reading (List ℕ) → List ℕ → ℕ → WriteLeft
+writeLeaves (read command) out size = writeLeft 0 (written (read command) out) (length command)
+writeLeaves (refused k) out size = writeLeft k out size
+
+-- 3 where there is no such request, else what its writer says; a refusal leaves both as they were
+unfoldable pub writes : Option Asked → List ℕ → ℕ → WriteLeft
+writes none out size = writeLeft 3 out size
+writes (some a) out size = writeLeaves (encodeReading a (length out)) out size
+
+-- ---- open
+
+-- the answer of `sim7000_open`, and what it leaves in each lent part
+pub record OpenLeft : Type 0 where
+  pub answer : ℕ
+  pub state : List ℕ
+  pub out : List ℕ
+  pub size : ℕ
+
+abbrev pub openLeft : ℕ → List ℕ → List ℕ → ℕ → OpenLeft
+openLeft answer state out size = record { answer = answer; state = state; out = out; size = size }
+
+abbrev pub openLeaves : Reading ℕ → Opened → List ℕ → List ℕ → ℕ → OpenLeft
+openLeaves (read n) o state out size = openLeft 0 (numbersOf (o .state)) (o .out) n
+openLeaves (refused k) o state out size = openLeft k state out size
+
+-- the desk's own open, on the desk that the lent parts are
+abbrev pub openedOn : Asked → List ℕ → List ℕ → List ℕ → Opened
+openedOn a line state out = opened (deskIn line state) (answersTo a) (encodeReading a (length out)) out
+
+-- 3 where there is no such request, else what the desk says; a refusal leaves all as it was
+unfoldable pub opens : Option Asked → List ℕ → List ℕ → List ℕ → ℕ → OpenLeft
+opens none line state out size = openLeft 3 state out size
+opens (some a) line state out size = openLeaves (openedOn a line state out .answer) (openedOn a line state out) state out size

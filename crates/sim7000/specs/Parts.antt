@@ -1,0 +1,85 @@
+-- The desk in lent parts (document 01, "The desk (added)"): the 257 bytes of the line that is coming, and two numbers, `state`. The first number counts
+-- the bytes held, and above 257 the line is being dropped; the second is the command. Every number has a meaning, so no state is ill-formed, and
+-- zeros are a new desk.
+use Prim.Native.Nat.{ℕ, _+_, _-_, _*_, _/_, _%_}
+use mathlib.Core.Bool.{cond}
+use mathlib.Core.List.{List, [], _∷_}
+use lib.Dec.{ltb, eqb}
+use lib.ListN.{getD}
+use Rattle.text.specs.Reading.{Reading, read, refused}
+use Rattle.at_command.specs.Kind.{Kind, placeOf, kindAt}
+use Rattle.desk.specs.Judge.{Event, Overlong, Stray, Failed, Taken, Done, Short, Unsolicited}
+use Rattle.desk.specs.Desk.{State, resetState, Heard, quiet, event, Fed, fed}
+
+-- ---- the command
+
+-- the answers that a command still awaits: 0 is idle, 1 + k awaits kind k, 14 + 13 a + b awaits a, then b; any greater number is idle
+unfoldable pub awaitedIn : ℕ → List Kind
+awaitedIn n =
+    cond (eqb n 0) []
+    (cond (ltb n 14) (kindAt (n - 1) ∷ [])
+    (cond (ltb n 183) (kindAt ((n - 14) / 13) ∷ kindAt ((n - 14) % 13) ∷ []) []))
+
+-- the number that a call leaves
+abbrev pub numberOf : List Kind → ℕ
+numberOf [] = 0
+numberOf (a ∷ []) = 1 + placeOf a
+numberOf (a ∷ b ∷ ks) = 14 + 13 * placeOf a + placeOf b
+
+-- ---- the desk
+
+abbrev pub deskIn : List ℕ → List ℕ → State
+deskIn line state = record { tray = record { bytes = line; len = getD state 0 0 }; awaited = awaitedIn (getD state 1 0) }
+
+abbrev pub numbersOf : State → List ℕ
+numbersOf s = s .tray .len ∷ numberOf (s .awaited) ∷ []
+
+-- what `sim7000_reset` leaves in the two numbers, whatever the line's bytes are
+abbrev pub resets : List ℕ → List ℕ
+resets state = numbersOf (resetState (deskIn [] state))
+
+-- ---- feed
+
+abbrev pub eventNumber : Event → ℕ
+eventNumber Unsolicited = 1
+eventNumber Taken = 2
+eventNumber Done = 3
+eventNumber Short = 4
+eventNumber Failed = 5
+eventNumber (Stray n) = 6
+eventNumber Overlong = 7
+
+abbrev pub strayNumber : Event → ℕ
+strayNumber Unsolicited = 0
+strayNumber Taken = 0
+strayNumber Done = 0
+strayNumber Short = 0
+strayNumber Failed = 0
+strayNumber (Stray n) = n
+strayNumber Overlong = 0
+
+-- what is told: the event's number, 0 without one; the bytes taken; the size of the line in the text buffer; a stray's number
+abbrev pub toldOf : Heard → List ℕ
+toldOf (quiet n) = 0 ∷ n ∷ 0 ∷ 0 ∷ []
+toldOf (event e n size) = eventNumber e ∷ n ∷ size ∷ strayNumber e ∷ []
+
+-- the answer of `sim7000_feed`, and what it leaves in each lent part
+pub record FeedLeft : Type 0 where
+  pub answer : ℕ
+  pub line : List ℕ
+  pub state : List ℕ
+  pub text : List ℕ
+  pub told : List ℕ
+
+-- a refusal leaves all as it was before, where the answer stands for none
+abbrev pub leftBy : Reading Heard → Fed → FeedLeft → FeedLeft
+leftBy (refused k) f before = record { answer = k; line = before .line; state = before .state; text = before .text; told = before .told }
+leftBy (read h) f before = record { answer = 0; line = f .state .tray .bytes; state = numbersOf (f .state); text = f .text; told = toldOf h }
+
+abbrev pub feedLeft : ℕ → List ℕ → List ℕ → List ℕ → List ℕ → FeedLeft
+feedLeft answer line state text told = record { answer = answer; line = line; state = state; text = text; told = told }
+
+-- the desk's own feed, on the desk that the lent parts are
+unfoldable pub feeds : List ℕ → List ℕ → List ℕ → List ℕ → List ℕ → FeedLeft
+feeds line state chunk text told =
+    leftBy (fed (deskIn line state) chunk text .answer) (fed (deskIn line state) chunk text) (feedLeft 0 line state text told)

@@ -1,0 +1,16 @@
+// What firmware links: the readers, the writers and the desk as C functions on numbers and lent bytes. `specs/` says what each number means.
+mod codes;
+mod missing;
+mod numbers;
+mod parts;
+mod read;
+mod request;
+mod trial;
+mod values;
+
+pub use crate::parts::sim7000_feed;
+pub use crate::parts::sim7000_open;
+pub use crate::parts::sim7000_reset;
+pub use crate::read::sim7000_read_line;
+pub use crate::read::sim7000_sort_line;
+pub use crate::request::sim7000_write_command;

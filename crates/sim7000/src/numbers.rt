@@ -1,0 +1,104 @@
+// The numbers that stand for the desk's command and its events.
+use at_command::request::ResponseKind;
+use desk::Command;
+use desk::Event;
+ghost use mathlib.Core.Path.{_≡_};
+ghost use Prim.Native.Nat.{_<_};
+ghost use Rattle.at_command.specs.says.Request.{kindSays};
+ghost use Rattle.at_command.specs.Kind.{kindAt};
+ghost use Rattle.desk.specs.Says.{awaitedOf, eventSays};
+ghost use Rattle.sim7000.specs.Parts.{awaitedIn, numberOf, eventNumber, strayNumber};
+
+fn kind_at(k: u64) -> ResponseKind
+    requires { ⌜ k < 13 ⌝ }
+    ensures { λ r. ⌜ kindSays r ≡ kindAt k ⌝ }
+{
+    match k {
+        0 => ResponseKind::GenericOk,
+        1 => ResponseKind::SimError,
+        2 => ResponseKind::WritePrompt,
+        3 => ResponseKind::CloseOk,
+        4 => ResponseKind::Iccid,
+        5 => ResponseKind::SignalQuality,
+        6 => ResponseKind::SystemInfo,
+        7 => ResponseKind::OperatorInfo,
+        8 => ResponseKind::NetworkTime,
+        9 => ResponseKind::DownloadInfo,
+        10 => ResponseKind::Imei,
+        11 => ResponseKind::SmsMessageFormat,
+        _ => ResponseKind::SmsMessage,
+    }
+}
+
+pub(crate) fn command_in(n: u64) -> Command
+    ensures { λ r. ⌜ awaitedOf r ≡ awaitedIn n ⌝ }
+{
+    if n == 0 {
+        return Command::Idle;
+    }
+    if n < 14 {
+        return Command::One(kind_at(n - 1));
+    }
+    if n < 183 {
+        let m = n - 14;
+        return Command::Two(kind_at(m / 13), kind_at(m % 13));
+    }
+    Command::Idle
+}
+
+pub(crate) fn number_of(command: Command) -> u64
+    ensures { λ r. ⌜ r ≡ numberOf (awaitedOf command) ⌝ }
+{
+    match command {
+        Command::Idle => 0,
+        Command::One(a) => 1 + a.place() as u64,
+        Command::Two(a, b) => 14 + 13 * a.place() as u64 + b.place() as u64,
+    }
+}
+
+pub(crate) fn event_number(event: Event) -> u64
+    ensures { λ r. ⌜ r ≡ eventNumber (eventSays event) ⌝ }
+{
+    match event {
+        Event::Unsolicited => 1,
+        Event::Taken => 2,
+        Event::Done => 3,
+        Event::Short => 4,
+        Event::Failed => 5,
+        Event::Stray(_) => 6,
+        Event::Overlong => 7,
+    }
+}
+
+pub(crate) fn stray_number(event: Event) -> u64
+    ensures { λ r. ⌜ r ≡ strayNumber (eventSays event) ⌝ }
+{
+    match event {
+        Event::Unsolicited => 0,
+        Event::Taken => 0,
+        Event::Done => 0,
+        Event::Short => 0,
+        Event::Failed => 0,
+        Event::Stray(n) => n as u64,
+        Event::Overlong => 0,
+    }
+}
+
+// A number of u64 as a count of bytes: both have 64 bits.
+pub(crate) fn size_in(n: u64) -> usize
+    ensures { λ r. ⌜ r ≡ n ⌝ }
+{
+    n as usize
+}
+
+pub(crate) fn number_in(n: usize) -> u64
+    ensures { λ r. ⌜ r ≡ n ⌝ }
+{
+    n as u64
+}
+
+pub(crate) fn wide(n: u32) -> u64
+    ensures { λ r. ⌜ r ≡ n ⌝ }
+{
+    n as u64
+}

@@ -1,0 +1,53 @@
+// A line is read: which reader takes it, and what it says.
+use crate::trial;
+use crate::trial::Line;
+use crate::values;
+use unsolicited::Urc;
+ghost use mathlib.Core.Path.{_≡_};
+ghost use Rattle.unsolicited.specs.says.Urc.{urcSays};
+ghost use Rattle.sim7000.specs.Said.{lineSaid, urcReader, sortNumber};
+ghost use Rattle.sim7000.specs.Values.{readLeft, handedOver};
+
+fn urc_reader(urc: Urc) -> u8
+    ensures { λ r. ⌜ r ≡ urcReader (urcSays urc) ⌝ }
+{
+    match urc {
+        Urc::GnssReport(_) => 14,
+        Urc::NetworkRegistration(_) => 15,
+    }
+}
+
+// 0, and the reader's number and values in `values`; or the refusal, and `values` as it was.
+#[no_mangle]
+pub extern "C" fn sim7000_read_line(line: &[u8], values: &mut [u64; 20]) -> u8
+    ensures { λ r. ⌜ readLeft r (now (values .exit)) ≡ handedOver (lineSaid (now (line .entry))) (now (values .entry)) ⌝ }
+{
+    let said = trial::line_of(line);
+    match said {
+        Line::Response(code) => {
+            *values = values::response_values(code);
+            0
+        }
+        Line::Unsolicited(urc) => {
+            *values = values::urc_values(urc);
+            0
+        }
+        Line::Refused(k) => k,
+    }
+}
+
+// The number of the reader that takes the line, or 128 and the refusal.
+#[no_mangle]
+pub extern "C" fn sim7000_sort_line(line: &[u8]) -> u8
+    ensures { λ r. ⌜ r ≡ sortNumber (lineSaid (now (line .entry))) ⌝ }
+{
+    let said = trial::line_of(line);
+    match said {
+        Line::Response(code) => {
+            let kind = code.kind();
+            kind.place() + 1
+        }
+        Line::Unsolicited(urc) => urc_reader(urc),
+        Line::Refused(k) => 128 + k,
+    }
+}
