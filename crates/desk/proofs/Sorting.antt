@@ -1,13 +1,15 @@
 -- Laws of a line's kind, from what the two trials say, and of the table. Nothing is known of the readers.
-use Prim.Native.Nat.{ℕ}
+use Prim.Native.Nat.{ℕ, _<_}
 use mathlib.Core.Path.{_≡_, refl, sym}
+use mathlib.Core.Bool.{Bool, true, not}
 use mathlib.Core.List.{List, [], _∷_}
 use Rattle.text.specs.Reading.{read, refused, mapped, firstOf, worse}
 use Rattle.text.specs.Line.{checked}
-use Rattle.text.proofs.LineLaws.{both-checked}
+use Rattle.text.proofs.LineLaws.{both-checked, first-refused}
 use Rattle.at_command.specs.Kind.{Kind}
 use Rattle.at_command.specs.Response.{Response, kindOf, responseText}
-use Rattle.unsolicited.specs.Urc.{Unsolicited, urcText}
+use Rattle.unsolicited.specs.Urc.{Unsolicited, urcText, begins}
+use Rattle.unsolicited.proofs.Prefixes.{unbegun}
 use Rattle.desk.specs.Kind.{response, unsolicited, sortText, lineKind}
 use Rattle.desk.specs.Judge as J
 use Rattle.desk.specs.Judge.{stays, table}
@@ -31,6 +33,11 @@ module _ (l : List ℕ) where
     pub kind-urc : {u : Unsolicited} → read u ≡ checked urcText l → read unsolicited ≡ lineKind l
     unfolding mapped firstOf
     kind-urc f = rw (sym (in-turn l), sym e, sym f)
+
+    pub kind-unbegun : (t : Bool) → 2 < j → t ≡ begins l → not t ≡ true → refused (worse j 3) ≡ lineKind l
+    unfolding lineKind sortText
+    kind-unbegun t h b f =
+        first-refused (λ (r : Response). response (kindOf r)) (λ (u : Unsolicited). unsolicited) responseText urcText l e h (unbegun l t b f)
 
     pub kind-none : {k : ℕ} → refused k ≡ checked urcText l → refused (worse j k) ≡ lineKind l
     unfolding mapped firstOf

@@ -28,7 +28,8 @@ pub struct Judged {
     pub event: Event,
 }
 
-// The responses, then the unsolicited. Each trial checks the line, and of one that does not pass both say the same.
+// The responses, then the unsolicited. Each trial checks the line, and of one that does not pass both say the same. The second is not asked where the
+// first says that the line passes and it does not begin as an unsolicited one, so that most lines are checked once.
 pub(crate) fn kind_of(s: &[u8]) -> LineKind
     ensures { λ r. ⌜ sortSays r ≡ lineKind (now (s .entry)) ⌝ }
 {
@@ -39,6 +40,12 @@ pub(crate) fn kind_of(s: &[u8]) -> LineKind
             LineKind::Response(kind)
         }
         ResponseCodeAnswer::Refused(j) => {
+            if 2 < j {
+                if !Urc::begins(s) {
+                    let n = line::worse_of(j, 3);
+                    return LineKind::Refused(n);
+                }
+            }
             let urc = Urc::from_line(s);
             match urc {
                 UrcAnswer::Value(_) => LineKind::Unsolicited,

@@ -1,17 +1,16 @@
 -- Laws of what a line says, from what the two trials say. Nothing is known of the readers but that the unsolicited refuse with 3 alone.
-use Prim.Native.Nat.{ℕ, _≤_}
+use Prim.Native.Nat.{ℕ, _≤_, _<_}
 use mathlib.Core.Path.{_≡_, refl, sym, subst}
-use mathlib.Core.Bool.{Bool, true, false, cond}
+use mathlib.Core.Bool.{Bool, true, false, not, cond}
 use mathlib.Core.List.{List, [], _∷_}
 use native.Mathlib.Omega.{arith}
-use lib.Dec.{eqb, ltb}
-use lib.ListN.{length}
+use lib.Dec.{eqb}
 use Rattle.text.specs.Reading.{Reading, read, refused, mapped, firstOf, worse}
-use Rattle.text.specs.Utf8.{utf8}
 use Rattle.text.specs.Line.{lineCheck, checked}
-use Rattle.text.proofs.LineLaws.{both-checked}
+use Rattle.text.proofs.LineLaws.{both-checked, check-low, first-refused}
 use Rattle.at_command.specs.Response.{Response, responseText}
-use Rattle.unsolicited.specs.Urc.{Unsolicited, urcText}
+use Rattle.unsolicited.specs.Urc.{Unsolicited, urcText, begins}
+use Rattle.unsolicited.proofs.Prefixes.{unbegun}
 use Rattle.unsolicited.specs.Urc.{gnss, registration}
 use Rattle.unsolicited.proofs.Trials.{Plain, plain-mapped, plain-first, plain-none}
 use Rattle.unsolicited.proofs.Reports.{plain-ugnsinf}
@@ -32,6 +31,10 @@ module _ (l : List ℕ) where
     pub said-urc : {u : Unsolicited} → read u ≡ checked urcText l → read (unsolicited u) ≡ lineSaid l
     unfolding mapped firstOf
     said-urc f = rw (sym (in-turn l), sym e, sym f)
+
+    pub said-unbegun : (t : Bool) → 2 < j → t ≡ begins l → not t ≡ true → refused (worse j 3) ≡ lineSaid l
+    unfolding lineSaid saidText
+    said-unbegun t h b f = first-refused response unsolicited responseText urcText l e h (unbegun l t b f)
 
     pub said-none : {k : ℕ} → refused k ≡ checked urcText l → refused (worse j k) ≡ lineSaid l
     unfolding mapped firstOf
@@ -60,22 +63,13 @@ trial-low (read r) u p = tt
 trial-low (refused j) (read u) p = tt
 trial-low (refused j) (refused k) p = worse-low (worse 3 j) k (omega arith)
 
-check-low : (l : List ℕ) → lineCheck l ≤ 4
-unfolding lineCheck
-check-low l = go (ltb 256 (length l)) (utf8 l)
-  where
-    go : (t v : Bool) → cond t 1 (cond v 0 2) ≤ 4
-    go true v = omega arith
-    go false true = omega arith
-    go false false = omega arith
-
 said-low : (l : List ℕ) → Low (lineSaid l)
 unfolding lineSaid checked saidText
 said-low l = go (eqb (lineCheck l) 0)
   where
     go : (t : Bool) → Low (cond t (saidText l) (refused (lineCheck l)))
     go true = trial-low (responseText l) (urcText l) (plain-urc l)
-    go false = check-low l
+    go false = let h = check-low l in omega arith
 
 pub refusal-low : (l : List ℕ) {k : ℕ} → refused k ≡ lineSaid l → k ≤ 4
 refusal-low l {k} e = subst Low (sym e) (said-low l)

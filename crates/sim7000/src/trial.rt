@@ -15,7 +15,7 @@ pub enum Line {
     Refused(u8),
 }
 
-// The responses, then the unsolicited. Each trial checks the line, and of one that does not pass both say the same.
+// The responses, then the unsolicited, where the line begins as one of these: as desk's `kind_of`.
 pub(crate) fn line_of(s: &[u8]) -> Line
     ensures { λ r. ⌜ lineSays r ≡ lineSaid (now (s .entry)) ⌝ }
 {
@@ -23,6 +23,12 @@ pub(crate) fn line_of(s: &[u8]) -> Line
     match response {
         ResponseCodeAnswer::Value(code) => Line::Response(code),
         ResponseCodeAnswer::Refused(j) => {
+            if 2 < j {
+                if !Urc::begins(s) {
+                    let n = line::worse_of(j, 3);
+                    return Line::Refused(n);
+                }
+            }
             let urc = Urc::from_line(s);
             match urc {
                 UrcAnswer::Value(u) => Line::Unsolicited(u),

@@ -3,7 +3,8 @@ use mathlib.Core.Path.{_≡_, refl, sym, ap}
 use mathlib.Core.Bool.{Bool, true, false, cond}
 use mathlib.Core.List.{List, [], _∷_}
 use Prim.Native.Nat.{ℕ, _≤_, _<_}
-use lib.Dec.{eqb}
+use native.Mathlib.Omega.{arith}
+use lib.Dec.{eqb, ltb}
 use lib.ListN.{length}
 use borrow.Author.Tests.{eqb-true, eq-eqb, ne-eqb, lt-ltb, le-ltb}
 use Rattle.text.specs.Line.{lineCheck, checked}
@@ -43,6 +44,15 @@ worse-same k = go (eqb k 4) refl
     go true e = sym (eqb-true k 4 e)
     go false e = refl
 
+pub check-low : (s : List ℕ) → lineCheck s ≤ 2
+unfolding lineCheck
+check-low s = go (ltb 256 (length s)) (utf8 s)
+  where
+    go : (t v : Bool) → cond t 1 (cond v 0 2) ≤ 2
+    go true v = omega arith
+    go false true = omega arith
+    go false false = omega arith
+
 -- two checked readers in order of trial are one checked trial: where the line does not pass, both say the same
 module _ {A B C : Type 0} (f : A → C) (g : B → C) (p : List ℕ → Reading A) (q : List ℕ → Reading B) (s : List ℕ) where
   pub both-checked :
@@ -56,3 +66,13 @@ module _ {A B C : Type 0} (f : A → C) (g : B → C) (p : List ℕ → Reading 
           ≡ cond t (firstOf 3 (mapped f (p s) ∷ mapped g (q s) ∷ [])) (refused (lineCheck s))
       go true = refl
       go false = ap refused (worse-same (lineCheck s))
+
+  -- where the first refuses a line that passes, and the second would with 3, the second need not be asked
+  pub first-refused : {j : ℕ} → refused j ≡ checked p s → 2 < j → q s ≡ refused 3 → refused (worse j 3) ≡ checked (λ t. firstOf 3 (mapped f (p t) ∷ mapped g (q t) ∷ [])) s
+  unfolding checked mapped firstOf
+  first-refused {j} e h u = go (eqb (lineCheck s) 0) e
+    where
+      go : (t : Bool) → refused j ≡ cond t (p s) (refused (lineCheck s))
+          → refused (worse j 3) ≡ cond t (firstOf 3 (mapped f (p s) ∷ mapped g (q s) ∷ [])) (refused (lineCheck s))
+      go true i = rw (sym i, u)
+      go false i = let low = check-low s in let z : j ≡ lineCheck s = cc in absurd (omega arith)

@@ -1,6 +1,7 @@
 -- No second answer meets a contract of this crate: what an answer says can be taken back.
 use mathlib.Core.Path.{_≡_, refl, ap}
-use mathlib.Core.List.{[], _∷_}
+use mathlib.Core.Bool.{Bool}
+use mathlib.Core.List.{List, [], _∷_}
 use mathlib.Core.Option.{Option, none, some}
 use Prim.Native.Nat.{ℕ}
 use lib.ListN.{getD}
@@ -10,7 +11,7 @@ use Rattle.text.specs.declared.number.ParsedU16.{ParsedU16}
 use Rattle.text.specs.declared.number.ParsedU16.the-variants.{Is as IsU16, Not as NotU16}
 use Rattle.text.specs.declared.number.ParsedU32.{ParsedU32}
 use Rattle.text.specs.declared.number.ParsedU32.the-variants.{Is as IsU32, Not as NotU32}
-use Rattle.text.proofs.One.{one-answer}
+use Rattle.text.proofs.One.{one-answer, one-equal}
 use Rattle.unsolicited.specs.Date.{Date}
 use Rattle.unsolicited.specs.Gnss as G
 use Rattle.unsolicited.specs.Registration.{Registration}
@@ -148,3 +149,7 @@ back-trial (A.Refused k) = refl
 -- one answer: Urc::from_line
 pub one-urc : (a b : UrcAnswer) (p : Reading U.Unsolicited) → urcAnswerSays a ≡ p → urcAnswerSays b ≡ p → a ≡ b
 one-urc = one-answer urcAnswerSays (answer A.Value A.Refused urc) back-trial
+
+-- one answer: Urc::begins
+pub one-begins : (l : List ℕ) (a b : Bool) → a ≡ U.begins l → b ≡ U.begins l → a ≡ b
+one-begins l a b = one-equal a b (U.begins l)

@@ -1,6 +1,6 @@
 -- What an accepted line begins with: one of four texts, so a "+". Assumes nothing.
 use mathlib.Core.Path.{_≡_, refl, sym, subst}
-use mathlib.Core.Bool.{Bool, true, false, _&&_, _||_}
+use mathlib.Core.Bool.{Bool, true, false, not, _&&_, _||_}
 use mathlib.Core.List.{List, [], _∷_, _++_}
 use Prim.Native.Nat.{ℕ}
 use native.Mathlib.Omega.{arith}
@@ -9,9 +9,9 @@ use lib.ListN.{length, drop, getD}
 use borrow.Author.Tests.{eqb-true}
 use Rattle.text.specs.Bytes.{bytes, startsWith}
 use Rattle.text.specs.Reading.{Reading, read, refused, only, mapped, firstOf}
-use Rattle.unsolicited.specs.Gnss.{ugnsinfText}
+use Rattle.unsolicited.specs.Gnss.{Report, ugnsinfText}
 use Rattle.unsolicited.specs.Registration.{Registration, cregText, cgregText, ceregText, registrationText}
-use Rattle.unsolicited.specs.Urc.{Unsolicited, gnss, registration, urcText}
+use Rattle.unsolicited.specs.Urc.{Unsolicited, gnss, registration, urcText, begins}
 
 never : {P : Type 0} → _≡_ {A = ℕ} 0 1 → P
 never e = absurd (omega arith)
@@ -88,3 +88,29 @@ urc-prefix s = urc-cases (λ (l : List ℕ). beginsWith prefixes l ≡ true) s (
 -- so with a "+", and not with a ">", with which a prompt begins
 pub unsolicited-first : (s : List ℕ) (u : Unsolicited) → urcText s ≡ read u → getD s 0 0 ≡ 43
 unsolicited-first s = urc-cases (λ (l : List ℕ). getD l 0 0 ≡ 43) s (λ t. refl) (λ t. refl) (λ t. refl) (λ t. refl)
+
+-- a line that does not begin so is refused with 3
+not-begun : (s : List ℕ) → begins s ≡ false → urcText s ≡ refused 3
+unfolding begins urcText ugnsinfText registrationText cregText cgregText ceregText only mapped firstOf
+not-begun s e = go (startsWith (bytes "+UGNSINF: ") s) (startsWith (bytes "+CREG: ") s) (startsWith (bytes "+CGREG: ") s) (startsWith (bytes "+CEREG: ") s) _ _ _ _ e
+  where
+    go : (a b c d : Bool) (q : Reading Report) (r t u : Reading Registration) → a || (b || (c || d)) ≡ false
+        → firstOf 3 (mapped gnss (only a q) ∷ mapped registration (firstOf 3 (only b r ∷ only c t ∷ only d u ∷ [])) ∷ []) ≡ refused 3
+    go false false false false q r t u h = refl
+    go true b c d q r t u h = never (cc)
+    go false true c d q r t u h = never (cc)
+    go false false true d q r t u h = never (cc)
+    go false false false true q r t u h = never (cc)
+
+-- and where the code has the test under the name t
+pub unbegun : (s : List ℕ) (t : Bool) → t ≡ begins s → not t ≡ true → urcText s ≡ refused 3
+unbegun s true e h = never (cc)
+unbegun s false e h = not-begun s (sym e)
+
+-- one of several tests, under the name x, and the others
+module _ (x a b : Bool) (is : x ≡ a) where
+  pub or-first : x ≡ true → true ≡ (a || b)
+  or-first h = rw (sym is, h)
+
+  pub or-later : (r : Bool) → x ≡ false → r ≡ b → r ≡ (a || b)
+  or-later r h e = rw (sym is, h) e

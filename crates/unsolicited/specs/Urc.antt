@@ -1,6 +1,8 @@
 -- The unsolicited lines, in order of trial (document 01, "What the port takes"; mod.rs).
 use Prim.Native.Nat.{ℕ}
+use mathlib.Core.Bool.{Bool, _||_}
 use mathlib.Core.List.{List, [], _∷_}
+use Rattle.text.specs.Bytes.{bytes, startsWith}
 use Rattle.text.specs.Reading.{Reading, mapped, firstOf}
 use Rattle.unsolicited.specs.Gnss.{Report, ugnsinfText}
 use Rattle.unsolicited.specs.Registration.{Registration, registrationText}
@@ -12,3 +14,7 @@ pub data Unsolicited : Type 0 where
 -- +UGNSINF, then +CREG, +CGREG, +CEREG
 unfoldable pub urcText : List ℕ → Reading Unsolicited
 urcText s = firstOf 3 (mapped gnss (ugnsinfText s) ∷ mapped registration (registrationText s) ∷ [])
+
+-- the line begins as one of these does; no other is accepted
+unfoldable pub begins : List ℕ → Bool
+begins s = startsWith (bytes "+UGNSINF: ") s || (startsWith (bytes "+CREG: ") s || (startsWith (bytes "+CGREG: ") s || startsWith (bytes "+CEREG: ") s))

@@ -9,10 +9,11 @@ use crate::network_registration::NetworkRegistration;
 use crate::network_registration::NetworkRegistrationAnswer;
 use crate::ugnsinf::GnssReport;
 use crate::ugnsinf::GnssReportAnswer;
+use text::bytes;
 use text::line;
 ghost use mathlib.Core.Path.{_≡_};
 ghost use Rattle.text.specs.Line.{checked};
-ghost use Rattle.unsolicited.specs.Urc.{urcText};
+ghost use Rattle.unsolicited.specs.Urc.{begins, urcText};
 ghost use Rattle.unsolicited.specs.says.Urc.{says};
 
 pub enum Urc {
@@ -38,6 +39,22 @@ impl Urc {
                 UrcAnswer::Value(Urc::NetworkRegistration(registration)),
             NetworkRegistrationAnswer::Refused(k) => UrcAnswer::Refused(k),
         }
+    }
+
+    // Whether the line begins as an unsolicited one does: a caller need not ask the readers of any other.
+    pub fn begins(line: &[u8]) -> bool
+        ensures { λ r. ⌜ r ≡ begins (now (line .entry)) ⌝ }
+    {
+        if bytes::starts_with(line, b"+UGNSINF: ") {
+            return true;
+        }
+        if bytes::starts_with(line, b"+CREG: ") {
+            return true;
+        }
+        if bytes::starts_with(line, b"+CGREG: ") {
+            return true;
+        }
+        bytes::starts_with(line, b"+CEREG: ")
     }
 
     pub fn from_line(line: &[u8]) -> UrcAnswer
