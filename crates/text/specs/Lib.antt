@@ -1,11 +1,13 @@
 pub mod Bytes
 pub mod Code
 pub mod Field
+pub mod Gives
 pub mod Handed
 pub mod Line
 pub mod Number
 pub mod Part
 pub mod Reader
 pub mod Reading
+pub mod Same
 pub mod Utf8
 pub mod says
