@@ -3,13 +3,13 @@ use mathlib.Core.Path.{_≡_, refl, ap, sym, _∙_}
 use mathlib.Core.Bool.{Bool, true, false, cond}
 use mathlib.Core.List.{List, [], _∷_, _++_}
 use Prim.Native.Nat.{ℕ, zero, suc, _+_, _-_, _/_, _%_, _≤_, _<_}
-use native.Mathlib.Nat.{add-suc, add-zero}
+use native.Mathlib.Nat.{add-suc}
 use native.Mathlib.Omega.{arith}
 use lib.Dec.{ltb}
 use lib.ListN.{length, take, drop, length-append, drop-of-length-le}
 use lib.Seq.{drop-append-le, take-all}
 use borrow.Author.Tests.{lt-ltb, le-ltb, ltb-false}
-use Rattle.at_command.specs.Lay.{lastDigits, HasDigits}
+use Rattle.at_command.specs.WriterSteps.{lastDigits, HasDigits}
 use Rattle.at_command.specs.Piece.{digitsUpTo, decimal}
 
 same-else : (t : Bool) (x y z : List ℕ) → (t ≡ false → y ≡ z) → cond t x y ≡ cond t x z
@@ -40,6 +40,12 @@ last-one n h = let e : n % 10 ≡ n = omega arith in decimal-one n h ∙ ap (λ 
 pub last-more : (k n : ℕ) → 10 ≤ n → decimal (n / 10) ≡ lastDigits k (n / 10) → decimal n ≡ lastDigits (suc k) n
 unfolding lastDigits
 last-more k n h e = decimal-more n h ∙ ap (λ (s : List ℕ). s ++ (48 + n % 10) ∷ []) e
+
+-- five digits, each by itself
+pub five : (n a b c d e : ℕ) → a ≡ 48 + n / 10 / 10 / 10 / 10 % 10 → b ≡ 48 + n / 10 / 10 / 10 % 10 → c ≡ 48 + n / 10 / 10 % 10 → d ≡ 48 + n / 10 % 10 → e ≡ 48 + n % 10
+    → a ∷ b ∷ c ∷ d ∷ e ∷ [] ≡ lastDigits 5 n
+unfolding lastDigits
+five n a b c d e p q r s t = rw (p, q, r, s, t)
 
 pub last-length : (k n : ℕ) → length (lastDigits k n) ≡ k
 unfolding lastDigits

@@ -18,7 +18,7 @@ use Rattle.text.specs.Line.{checked}
 use Rattle.text.specs.Part.{Span, spanOf, partOf, after, trimEnd, trimPlace}
 use Rattle.text.proofs.Accepts.{by-only, by-sized, by-fitting, by-either, by-need, by-checked, where-0}
 use Rattle.text.proofs.Fields.{field-bytes}
-use Rattle.text.proofs.Rest.{at-end}
+use Rattle.text.proofs.AtIndex.{at-end}
 use Rattle.text.proofs.Trims.{trim-in, trim-bytes}
 use Rattle.at_command.specs.Cmgr.{cmgrFields, cmgrText}
 use Rattle.at_command.specs.Cntp.{NetTime, cntpRest, cntpText}
@@ -92,18 +92,18 @@ no-comma r e = let h : length r ≤ indexOf 44 r = ltb-false _ _ e in sym (at-en
 
 module _ (line fallback t : RefT (List ℕ)) where
   -- the part so named has the bytes x
-  abbrev Gives : List ℕ → Handed → Type 0
-  Gives x h = IsHanded line fallback h t → now t ≡ x
+  abbrev Hands : List ℕ → Handed → Type 0
+  Hands x h = IsHanded line fallback h t → now t ≡ x
 
-  in-line : (x : List ℕ) (p : Span) → bytesAt (now line) p ≡ x → Gives x (stands.inLine p)
+  in-line : (x : List ℕ) (p : Span) → bytesAt (now line) p ≡ x → Hands x (stands.inLine p)
   unfolding IsHanded
   in-line x p e h = h .bytes ∙ e
 
-  in-fallback : (x : List ℕ) (p : Span) → bytesAt (now fallback) p ≡ x → Gives x (stands.inFallback p)
+  in-fallback : (x : List ℕ) (p : Span) → bytesAt (now fallback) p ≡ x → Hands x (stands.inFallback p)
   unfolding IsHanded
   in-fallback x p e h = h .bytes ∙ e
 
-  absent : (x : List ℕ) → [] ≡ x → Gives x (stands.nowhere 0)
+  absent : (x : List ℕ) → [] ≡ x → Hands x (stands.nowhere 0)
   unfolding IsHanded partOf
   absent x e h = h .bytes ∙ e
 
@@ -111,16 +111,16 @@ module _ (line fallback t : RefT (List ℕ)) where
   unfolding imeiHanded imeiText
   imei-is =
       let s = now line in
-      let Q : Span → Type 0 = λ (p : Span). Gives s (stands.inLine p) in
-      where-0 (Gives s) stands.inLine (checked imeiText s) (by-checked Q imeiText s (by-sized Q 15 16 s _ (by-only Q _ _ (by-only Q _ _ (in-line s (spanOf 0 s) (whole-at s))))))
+      let Q : Span → Type 0 = λ (p : Span). Hands s (stands.inLine p) in
+      where-0 (Hands s) stands.inLine (checked imeiText s) (by-checked Q imeiText s (by-sized Q 15 16 s _ (by-only Q _ _ (by-only Q _ _ (in-line s (spanOf 0 s) (whole-at s))))))
 
   pub sender-is : senderHanded (now line) .refusal ≡ 0 → IsHanded line fallback (senderHanded (now line)) t → now t ≡ unquoted (nth 1 (fields 44 (drop 7 (now line))))
   unfolding senderHanded cmgrText cmgrFields
   sender-is =
       let s = now line in
       let x = unquoted (nth 1 (fields 44 (drop 7 s))) in
-      let Q : Span → Type 0 = λ (p : Span). Gives x (stands.inLine p) in
-      where-0 (Gives x) stands.inLine (checked cmgrText s) (by-checked Q cmgrText s (by-only Q _ _ (by-only Q _ _ (by-fitting Q 20 _ _ (in-line x _ (field-at s 1))))))
+      let Q : Span → Type 0 = λ (p : Span). Hands x (stands.inLine p) in
+      where-0 (Hands x) stands.inLine (checked cmgrText s) (by-checked Q cmgrText s (by-only Q _ _ (by-only Q _ _ (by-fitting Q 20 _ _ (in-line x _ (field-at s 1))))))
 
   -- nothing follows a comma that is not there
   pub time-is : timeHanded (now line) .refusal ≡ 0 → IsHanded line fallback (timeHanded (now line)) t → now t ≡ after 44 (drop 7 (now line))
@@ -129,28 +129,28 @@ module _ (line fallback t : RefT (List ℕ)) where
       let s = now line in
       let r = drop 7 s in
       let x = after 44 r in
-      let Q : NetTime → Type 0 = λ (n : NetTime). Gives x (timeIn (n .time)) in
-      where-0 (Gives x) (λ (n : NetTime). timeIn (n .time)) (checked cntpText s)
+      let Q : NetTime → Type 0 = λ (n : NetTime). Hands x (timeIn (n .time)) in
+      where-0 (Hands x) (λ (n : NetTime). timeIn (n .time)) (checked cntpText s)
       (by-checked Q cntpText s (by-only Q _ _ (by-need Q _ _ (λ c. by-either Q (has 44 r) _ _
       (λ e. by-fitting Q 32 x _ (in-line x _ (after-at s (indexOf 44 r + 1))))
       (λ e. absent x (no-comma r e))))))
 
-named : (line name t : RefT (List ℕ)) → Gives line name t (unquoted (fieldOr 2 (fields 44 (drop 7 (now line))) (now name))) (nameIn (nameOf (fields 44 (drop 7 (now line))) (now name)))
+named : (line name t : RefT (List ℕ)) → Hands line name t (unquoted (fieldOr 2 (fields 44 (drop 7 (now line))) (now name))) (nameIn (nameOf (fields 44 (drop 7 (now line))) (now name)))
 unfolding fieldOr nameOf nameIn
 named line name t = go (ltb 2 (length (fields 44 (drop 7 (now line)))))
   where
-    go : (b : Bool) → Gives line name t (unquoted (cond b (nth 2 (fields 44 (drop 7 (now line)))) (now name))) (nameIn (cond b (inLine (unquotedField 2 (fields 44 (drop 7 (now line))))) (inFallback (unquotedSpan 0 (now name)))))
+    go : (b : Bool) → Hands line name t (unquoted (cond b (nth 2 (fields 44 (drop 7 (now line)))) (now name))) (nameIn (cond b (inLine (unquotedField 2 (fields 44 (drop 7 (now line))))) (inFallback (unquotedSpan 0 (now name)))))
     go true = in-line line name t _ _ (field-at (now line) 2)
     go false = in-fallback line name t _ _ (lent-at (now name))
 
-module _ (line format name t : RefT (List ℕ)) where
-  pub name-is : nameHanded (now line) (now format) (now name) .refusal ≡ 0 → IsHanded line name (nameHanded (now line) (now format) (now name)) t
-      → now t ≡ unquoted (fieldOr 2 (fields 44 (drop 7 (now line))) (now name))
+module _ (line formatFallback nameFallback t : RefT (List ℕ)) where
+  pub name-is : nameHanded (now line) (now formatFallback) (now nameFallback) .refusal ≡ 0 → IsHanded line nameFallback (nameHanded (now line) (now formatFallback) (now nameFallback)) t
+      → now t ≡ unquoted (fieldOr 2 (fields 44 (drop 7 (now line))) (now nameFallback))
   unfolding nameHanded copsText copsFields
   name-is =
       let s = now line in
       let fs = fields 44 (drop 7 s) in
-      let x = unquoted (fieldOr 2 fs (now name)) in
-      let Q : Operator → Type 0 = λ (o : Operator). Gives line name t x (nameIn (o .name)) in
-      where-0 (Gives line name t x) (λ (o : Operator). nameIn (o .name)) (checked (copsText (now format) (now name)) s)
-      (by-checked Q (copsText (now format) (now name)) s (by-only Q _ _ (by-need Q _ _ (λ m. by-need Q _ _ (λ f. named line name t)))))
+      let x = unquoted (fieldOr 2 fs (now nameFallback)) in
+      let Q : Operator → Type 0 = λ (o : Operator). Hands line nameFallback t x (nameIn (o .name)) in
+      where-0 (Hands line nameFallback t x) (λ (o : Operator). nameIn (o .name)) (checked (copsText (now formatFallback) (now nameFallback)) s)
+      (by-checked Q (copsText (now formatFallback) (now nameFallback)) s (by-only Q _ _ (by-need Q _ _ (λ m. by-need Q _ _ (λ f. named line nameFallback t)))))

@@ -1,6 +1,6 @@
 -- Pieces laid one behind the other in a buffer. Assumes nothing.
 use mathlib.Core.Path.{_≡_, refl, ap, sym, _∙_}
-use mathlib.Core.Bool.{Bool, true, false, cond}
+use mathlib.Core.Bool.{Bool, true, false}
 use mathlib.Core.List.{List, [], _∷_, _++_, append-assoc, append-nil}
 use Prim.Native.Nat.{ℕ, suc, _+_, _≤_, _<_}
 use native.Mathlib.Nat.{add-zero}
@@ -8,8 +8,14 @@ use native.Mathlib.Numerals.{add-one}
 use native.Mathlib.Omega.{arith}
 use lib.ListN.{length, take, drop, getD, set, length-append, length-drop, length-set, take-append-drop}
 use lib.Seq.{length-take-le, take-suc, take-at, take-all, drop-append-add, drop-drop, set-split, append-snoc}
-use Rattle.at_command.specs.Lay.{Lays}
+use Rattle.text.specs.Copy.{LayKeeps}
+use Rattle.text.proofs.Copying.{whole-ends, whole-holds}
+use Rattle.at_command.specs.WriterSteps.{Lays}
 use Rattle.at_command.specs.Piece.{marked, escape, escaped}
+
+-- a piece that has room, as `copy::lay` lays it
+pub lay-piece : (piece : List ℕ) (at : ℕ) (b : List ℕ) (e : ℕ) (x : List ℕ) → at + length piece ≤ length b → LayKeeps piece at b e x → Lays piece at b e x
+lay-piece piece at b e x r l = record { room = r; ends = whole-ends piece at b e x r l; holds = whole-holds piece at b e x r l }
 
 -- nothing laid
 pub lay-none : (at e : ℕ) (b : List ℕ) → e ≡ at → at ≤ length b → Lays [] at b e b
@@ -47,7 +53,7 @@ lay-on {p} {q} {b} {x} {y} {at} {e} {f} l m =
     }
 
 -- one byte
-lay-byte : (x : List ℕ) (e v : ℕ) → e < length x → Lays (v ∷ []) e x (e + 1) (set x e v)
+pub lay-byte : (x : List ℕ) (e v : ℕ) → e < length x → Lays (v ∷ []) e x (e + 1) (set x e v)
 lay-byte x e v h =
     record {
       room = omega arith;
@@ -61,14 +67,6 @@ lay-as p q b at d e x h k l = rw (sym h, sym k) l
 
 next-byte : (s : List ℕ) (i : ℕ) → i < length s → take (i + 1) s ≡ take i s ++ getD s i 0 ∷ []
 next-byte s i h = rw (add-one, take-suc s i 0)
-
--- `lay`
-module _ (piece b : List ℕ) (at i : ℕ) (x : List ℕ) (l : Lays (take i piece) at b (at + i) x) where
-  pub lay-next : i < length piece → at + length piece ≤ length b → length x ≡ length b → Lays (take (i + 1) piece) at b (at + (i + 1)) (set x (at + i) (getD piece i 0))
-  lay-next h r w = lay-as _ _ b at (at + i + 1) _ _ (sym (next-byte piece i h)) (omega arith) (lay-on l (lay-byte x (at + i) (getD piece i 0) (omega arith)))
-
-  pub lay-all : length piece ≤ i → Lays piece at b (at + i) x
-  lay-all h = lay-as _ _ b at _ _ x (take-all i piece h) refl l
 
 -- `lay_escaped`
 escaped-append : (s t : List ℕ) → escaped (s ++ t) ≡ escaped s ++ escaped t

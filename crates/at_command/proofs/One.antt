@@ -2,14 +2,13 @@
 use mathlib.Core.Path.{_≡_, refl, ap}
 use mathlib.Core.Bool.{cond}
 use mathlib.Core.List.{List}
-use mathlib.Core.Option.{Option, none, some}
+use mathlib.Core.Option.{Option}
 use Prim.Native.Nat.{ℕ}
 use lib.Dec.{eqb}
 use Rattle.text.specs.Part.{Span}
-use Rattle.text.specs.Reading.{Reading, read, refused, Mark}
-use Rattle.text.specs.says.Part.{placeSays}
+use Rattle.text.specs.Reading.{Mark}
 use Rattle.text.specs.declared.part.Place.{Place}
-use Rattle.text.proofs.One.{one-answer, one-equal}
+use Rattle.text.proofs.One.{one-answer, option, answer}
 use Rattle.at_command.specs.Ccid.{Card}
 use Rattle.at_command.specs.Cntp.{NetTime}
 use Rattle.at_command.specs.Cops.{Name, inLine, inFallback, Operator}
@@ -18,15 +17,25 @@ use Rattle.at_command.specs.Generic.{Fault, generic, cme, cms}
 use Rattle.at_command.specs.Httptofs.{Download}
 use Rattle.at_command.specs.Response.{Response, ok, error, prompt, closeOk, iccid, signal, system, operator, time, download, imei, format, message}
 use Rattle.at_command.specs.says.Ccid as Ccid
+use Rattle.at_command.specs.says.Ccid.{IccidKeeps}
 use Rattle.at_command.specs.says.Cmgf as Cmgf
+use Rattle.at_command.specs.says.Cmgf.{SmsMessageFormatKeeps}
 use Rattle.at_command.specs.says.Cmgr as Cmgr
+use Rattle.at_command.specs.says.Cmgr.{SmsMessageKeeps}
 use Rattle.at_command.specs.says.Cntp as Cntp
+use Rattle.at_command.specs.says.Cntp.{NetworkTimeKeeps}
 use Rattle.at_command.specs.says.Cops as Cops
+use Rattle.at_command.specs.says.Cops.{OperatorInfoKeeps}
 use Rattle.at_command.specs.says.Cpsi as Cpsi
+use Rattle.at_command.specs.says.Cpsi.{SystemInfoKeeps}
 use Rattle.at_command.specs.says.Generic as Generic
+use Rattle.at_command.specs.says.Generic.{GenericOkKeeps, SimErrorKeeps, WritePromptKeeps, CloseOkKeeps}
 use Rattle.at_command.specs.says.Gsn as Gsn
+use Rattle.at_command.specs.says.Gsn.{ImeiKeeps}
 use Rattle.at_command.specs.says.Httptofs as Httptofs
+use Rattle.at_command.specs.says.Httptofs.{DownloadInfoKeeps, SuccessKeeps}
 use Rattle.at_command.specs.says.Response as Response
+use Rattle.at_command.specs.says.Response.{ResponseCodeKeeps}
 use Rattle.at_command.specs.declared.cmgf.SmsMessageFormat.{SmsMessageFormat}
 use Rattle.at_command.specs.declared.cmgf.SmsMessageFormat.the-variants as format
 use Rattle.at_command.specs.declared.cpsi.SystemMode.{SystemMode}
@@ -89,11 +98,6 @@ use Rattle.at_command.specs.declared.cops.OperatorName.the-variants as N
 use Rattle.at_command.specs.declared.httptofs.Success.{Success}
 use Rattle.at_command.specs.declared.httptofs.Success.the-variants as S
 use Rattle.at_command.proofs.csq.One.{signalOf, signal-back}
-
--- the answer that says a reading, given the value that says what was read
-abbrev answer : {R W P : Type 0} → (W → R) → (ℕ → R) → (P → W) → Reading P → R
-answer value not back (read p) = value (back p)
-answer value not back (refused k) = not k
 
 -- the codes, by their numbers
 
@@ -217,8 +221,7 @@ operator-back : (i : OperatorInfo) → operatorOf (Cops.infoSays i) ≡ i
 operator-back i = rw (operatorMode-back (i .mode), operatorFormat-back (i .format), name-back (i .«operator_name»))
 
 abbrev timePlace : Option Span → TimePlace
-timePlace none = T.None
-timePlace (some p) = T.Some (place p)
+timePlace = option T.Some T.None place
 
 timePlace-back : (x : TimePlace) → timePlace (Cntp.timeSays x) ≡ x
 timePlace-back T.None = refl
@@ -248,98 +251,98 @@ ok-answer-back (GenericOkA.Value v) = refl
 ok-answer-back (GenericOkA.Refused k) = refl
 
 -- one answer: generic_response::GenericOk::from_line
-pub one-ok-answer : (a b : GenericOkAnswer) (p : Reading Mark) → Generic.okSays a ≡ p → Generic.okSays b ≡ p → a ≡ b
-one-ok-answer = one-answer Generic.okSays (answer GenericOkA.Value GenericOkA.Refused okOf) ok-answer-back
+pub one-ok : (line : List ℕ) (a b : GenericOkAnswer) → GenericOkKeeps line a → GenericOkKeeps line b → a ≡ b
+one-ok line a b = one-answer Generic.okSays (answer GenericOkA.Value GenericOkA.Refused okOf) ok-answer-back a b _
 
 error-answer-back : (r : SimErrorAnswer) → answer SimErrorA.Value SimErrorA.Refused faultOf (Generic.errorSays r) ≡ r
 error-answer-back (SimErrorA.Value v) = ap SimErrorA.Value (fault-back v)
 error-answer-back (SimErrorA.Refused k) = refl
 
 -- one answer: generic_response::SimError::from_line
-pub one-error-answer : (a b : SimErrorAnswer) (p : Reading Fault) → Generic.errorSays a ≡ p → Generic.errorSays b ≡ p → a ≡ b
-one-error-answer = one-answer Generic.errorSays (answer SimErrorA.Value SimErrorA.Refused faultOf) error-answer-back
+pub one-error : (line : List ℕ) (a b : SimErrorAnswer) → SimErrorKeeps line a → SimErrorKeeps line b → a ≡ b
+one-error line a b = one-answer Generic.errorSays (answer SimErrorA.Value SimErrorA.Refused faultOf) error-answer-back a b _
 
 prompt-answer-back : (r : WritePromptAnswer) → answer WritePromptA.Value WritePromptA.Refused promptOf (Generic.promptSays r) ≡ r
 prompt-answer-back (WritePromptA.Value v) = refl
 prompt-answer-back (WritePromptA.Refused k) = refl
 
 -- one answer: generic_response::WritePrompt::from_line
-pub one-prompt-answer : (a b : WritePromptAnswer) (p : Reading Mark) → Generic.promptSays a ≡ p → Generic.promptSays b ≡ p → a ≡ b
-one-prompt-answer = one-answer Generic.promptSays (answer WritePromptA.Value WritePromptA.Refused promptOf) prompt-answer-back
+pub one-prompt : (line : List ℕ) (a b : WritePromptAnswer) → WritePromptKeeps line a → WritePromptKeeps line b → a ≡ b
+one-prompt line a b = one-answer Generic.promptSays (answer WritePromptA.Value WritePromptA.Refused promptOf) prompt-answer-back a b _
 
 close-answer-back : (r : CloseOkAnswer) → answer CloseOkA.Value CloseOkA.Refused closeOf (Generic.closeSays r) ≡ r
 close-answer-back (CloseOkA.Value v) = refl
 close-answer-back (CloseOkA.Refused k) = refl
 
 -- one answer: generic_response::CloseOk::from_line
-pub one-close-answer : (a b : CloseOkAnswer) (p : Reading ℕ) → Generic.closeSays a ≡ p → Generic.closeSays b ≡ p → a ≡ b
-one-close-answer = one-answer Generic.closeSays (answer CloseOkA.Value CloseOkA.Refused closeOf) close-answer-back
+pub one-close : (line : List ℕ) (a b : CloseOkAnswer) → CloseOkKeeps line a → CloseOkKeeps line b → a ≡ b
+one-close line a b = one-answer Generic.closeSays (answer CloseOkA.Value CloseOkA.Refused closeOf) close-answer-back a b _
 
 iccid-answer-back : (r : IccidAnswer) → answer IccidA.Value IccidA.Refused cardOf (Ccid.says r) ≡ r
 iccid-answer-back (IccidA.Value v) = refl
 iccid-answer-back (IccidA.Refused k) = refl
 
 -- one answer: ccid::Iccid::from_line
-pub one-iccid-answer : (a b : IccidAnswer) (p : Reading Card) → Ccid.says a ≡ p → Ccid.says b ≡ p → a ≡ b
-one-iccid-answer = one-answer Ccid.says (answer IccidA.Value IccidA.Refused cardOf) iccid-answer-back
+pub one-iccid : (line : List ℕ) (a b : IccidAnswer) → IccidKeeps line a → IccidKeeps line b → a ≡ b
+one-iccid line a b = one-answer Ccid.says (answer IccidA.Value IccidA.Refused cardOf) iccid-answer-back a b _
 
 system-answer-back : (r : SystemInfoAnswer) → answer SystemInfoA.Value SystemInfoA.Refused systemOf (Cpsi.says r) ≡ r
 system-answer-back (SystemInfoA.Value v) = ap SystemInfoA.Value (system-back v)
 system-answer-back (SystemInfoA.Refused k) = refl
 
 -- one answer: cpsi::SystemInfo::from_line
-pub one-system-answer : (a b : SystemInfoAnswer) (p : Reading System) → Cpsi.says a ≡ p → Cpsi.says b ≡ p → a ≡ b
-one-system-answer = one-answer Cpsi.says (answer SystemInfoA.Value SystemInfoA.Refused systemOf) system-answer-back
+pub one-system : (line : List ℕ) (a b : SystemInfoAnswer) → SystemInfoKeeps line a → SystemInfoKeeps line b → a ≡ b
+one-system line a b = one-answer Cpsi.says (answer SystemInfoA.Value SystemInfoA.Refused systemOf) system-answer-back a b _
 
 operator-answer-back : (r : OperatorInfoAnswer) → answer OperatorInfoA.Value OperatorInfoA.Refused operatorOf (Cops.says r) ≡ r
 operator-answer-back (OperatorInfoA.Value v) = ap OperatorInfoA.Value (operator-back v)
 operator-answer-back (OperatorInfoA.Refused k) = refl
 
 -- one answer: cops::OperatorInfo::from_line
-pub one-operator-answer : (a b : OperatorInfoAnswer) (p : Reading Operator) → Cops.says a ≡ p → Cops.says b ≡ p → a ≡ b
-one-operator-answer = one-answer Cops.says (answer OperatorInfoA.Value OperatorInfoA.Refused operatorOf) operator-answer-back
+pub one-operator : (line formatFallback nameFallback : List ℕ) (a b : OperatorInfoAnswer) → OperatorInfoKeeps line formatFallback nameFallback a → OperatorInfoKeeps line formatFallback nameFallback b → a ≡ b
+one-operator line formatFallback nameFallback a b = one-answer Cops.says (answer OperatorInfoA.Value OperatorInfoA.Refused operatorOf) operator-answer-back a b _
 
 time-answer-back : (r : NetworkTimeAnswer) → answer NetworkTimeA.Value NetworkTimeA.Refused timeOf (Cntp.says r) ≡ r
 time-answer-back (NetworkTimeA.Value v) = ap NetworkTimeA.Value (time-back v)
 time-answer-back (NetworkTimeA.Refused k) = refl
 
 -- one answer: cntp::NetworkTime::from_line
-pub one-time-answer : (a b : NetworkTimeAnswer) (p : Reading NetTime) → Cntp.says a ≡ p → Cntp.says b ≡ p → a ≡ b
-one-time-answer = one-answer Cntp.says (answer NetworkTimeA.Value NetworkTimeA.Refused timeOf) time-answer-back
+pub one-time : (line : List ℕ) (a b : NetworkTimeAnswer) → NetworkTimeKeeps line a → NetworkTimeKeeps line b → a ≡ b
+one-time line a b = one-answer Cntp.says (answer NetworkTimeA.Value NetworkTimeA.Refused timeOf) time-answer-back a b _
 
 download-answer-back : (r : DownloadInfoAnswer) → answer DownloadInfoA.Value DownloadInfoA.Refused downloadOf (Httptofs.says r) ≡ r
 download-answer-back (DownloadInfoA.Value v) = ap DownloadInfoA.Value (download-back v)
 download-answer-back (DownloadInfoA.Refused k) = refl
 
 -- one answer: httptofs::DownloadInfo::from_line
-pub one-download-answer : (a b : DownloadInfoAnswer) (p : Reading Download) → Httptofs.says a ≡ p → Httptofs.says b ≡ p → a ≡ b
-one-download-answer = one-answer Httptofs.says (answer DownloadInfoA.Value DownloadInfoA.Refused downloadOf) download-answer-back
+pub one-download : (line : List ℕ) (a b : DownloadInfoAnswer) → DownloadInfoKeeps line a → DownloadInfoKeeps line b → a ≡ b
+one-download line a b = one-answer Httptofs.says (answer DownloadInfoA.Value DownloadInfoA.Refused downloadOf) download-answer-back a b _
 
 imei-answer-back : (r : ImeiAnswer) → answer ImeiA.Value ImeiA.Refused imeiOf (Gsn.says r) ≡ r
 imei-answer-back (ImeiA.Value v) = refl
 imei-answer-back (ImeiA.Refused k) = refl
 
 -- one answer: gsn::Imei::from_line
-pub one-imei-answer : (a b : ImeiAnswer) (p : Reading Span) → Gsn.says a ≡ p → Gsn.says b ≡ p → a ≡ b
-one-imei-answer = one-answer Gsn.says (answer ImeiA.Value ImeiA.Refused imeiOf) imei-answer-back
+pub one-imei : (line : List ℕ) (a b : ImeiAnswer) → ImeiKeeps line a → ImeiKeeps line b → a ≡ b
+one-imei line a b = one-answer Gsn.says (answer ImeiA.Value ImeiA.Refused imeiOf) imei-answer-back a b _
 
 format-answer-back : (r : SmsMessageFormatAnswer) → answer SmsMessageFormatA.Value SmsMessageFormatA.Refused formatOf (Cmgf.says r) ≡ r
 format-answer-back (SmsMessageFormatA.Value v) = ap SmsMessageFormatA.Value (format-back v)
 format-answer-back (SmsMessageFormatA.Refused k) = refl
 
 -- one answer: cmgf::SmsMessageFormat::from_line
-pub one-format-answer : (a b : SmsMessageFormatAnswer) (p : Reading ℕ) → Cmgf.says a ≡ p → Cmgf.says b ≡ p → a ≡ b
-one-format-answer = one-answer Cmgf.says (answer SmsMessageFormatA.Value SmsMessageFormatA.Refused formatOf) format-answer-back
+pub one-format : (line : List ℕ) (a b : SmsMessageFormatAnswer) → SmsMessageFormatKeeps line a → SmsMessageFormatKeeps line b → a ≡ b
+one-format line a b = one-answer Cmgf.says (answer SmsMessageFormatA.Value SmsMessageFormatA.Refused formatOf) format-answer-back a b _
 
 message-answer-back : (r : SmsMessageAnswer) → answer SmsMessageA.Value SmsMessageA.Refused messageOf (Cmgr.says r) ≡ r
 message-answer-back (SmsMessageA.Value v) = refl
 message-answer-back (SmsMessageA.Refused k) = refl
 
 -- one answer: cmgr::SmsMessage::from_line
-pub one-message-answer : (a b : SmsMessageAnswer) (p : Reading Span) → Cmgr.says a ≡ p → Cmgr.says b ≡ p → a ≡ b
-one-message-answer = one-answer Cmgr.says (answer SmsMessageA.Value SmsMessageA.Refused messageOf) message-answer-back
+pub one-message : (line : List ℕ) (a b : SmsMessageAnswer) → SmsMessageKeeps line a → SmsMessageKeeps line b → a ≡ b
+one-message line a b = one-answer Cmgr.says (answer SmsMessageA.Value SmsMessageA.Refused messageOf) message-answer-back a b _
 
-abbrev codeOf : Response → ResponseCode
+abbrev pub codeOf : Response → ResponseCode
 codeOf (ok x) = R.Ok (okOf x)
 codeOf (error x) = R.Error (faultOf x)
 codeOf (prompt x) = R.WritePrompt (promptOf x)
@@ -354,7 +357,7 @@ codeOf (imei x) = R.Imei (imeiOf x)
 codeOf (format x) = R.SmsMessageFormat (formatOf x)
 codeOf (message x) = R.SmsMessage (messageOf x)
 
-code-back : (c : ResponseCode) → codeOf (Response.codeSays c) ≡ c
+pub code-back : (c : ResponseCode) → codeOf (Response.codeSays c) ≡ c
 code-back (R.Ok x) = refl
 code-back (R.Error x) = ap R.Error (fault-back x)
 code-back (R.WritePrompt x) = refl
@@ -374,22 +377,17 @@ response-back (A.Value c) = ap A.Value (code-back c)
 response-back (A.Refused k) = refl
 
 -- one answer: ResponseCode::from_line
-pub one-response : (a b : ResponseCodeAnswer) (p : Reading Response) → Response.says a ≡ p → Response.says b ≡ p → a ≡ b
-one-response = one-answer Response.says (answer A.Value A.Refused codeOf) response-back
+pub one-response : (line : List ℕ) (a b : ResponseCodeAnswer) → ResponseCodeKeeps line a → ResponseCodeKeeps line b → a ≡ b
+one-response line a b = one-answer Response.says (answer A.Value A.Refused codeOf) response-back a b _
 
 -- the status of a download
 abbrev successOf : Option ℕ → Success
-successOf none = S.Ok
-successOf (some n) = S.Err (statusOf n)
+successOf = option S.Err S.Ok statusOf
 
 success-back : (r : Success) → successOf (Httptofs.successSays r) ≡ r
 success-back S.Ok = refl
 success-back (S.Err c) = ap S.Err (status-back c)
 
 -- one answer: httptofs::StatusCode::success
-pub one-success : (a b : Success) (o : Option ℕ) → Httptofs.successSays a ≡ o → Httptofs.successSays b ≡ o → a ≡ b
-one-success = one-answer Httptofs.successSays successOf success-back
-
--- one answer: httptofs::StatusCode::number
-pub one-status-number : (c : StatusCode) (a b : ℕ) → a ≡ Httptofs.statusNumber c → b ≡ Httptofs.statusNumber c → a ≡ b
-one-status-number c a b = one-equal a b (Httptofs.statusNumber c)
+pub one-success : (code : StatusCode) (a b : Success) → SuccessKeeps code a → SuccessKeeps code b → a ≡ b
+one-success code a b = one-answer Httptofs.successSays successOf success-back a b _

@@ -3,11 +3,13 @@
 use mathlib.Core.Path.{_≡_, refl, ap, sym, _∙_}
 use mathlib.Core.List.{List, [], _∷_}
 use Prim.Native.Nat.{ℕ}
-use Rattle.text.proofs.One.{one-answer, one-equal}
+use Rattle.text.proofs.One.{one-answer}
 use Rattle.text.specs.Reading.{Reading, read, refused}
-use Rattle.at_command.specs.Kind.{Kind, genericOk, simError, writePrompt, closeOk, iccid, signalQuality, systemInfo, operatorInfo, networkTime, downloadInfo, imei, smsMessageFormat, smsMessage, placeOf}
-use Rattle.at_command.specs.Request.{Asked, Writes, answersTo}
-use Rattle.at_command.specs.says.Request.{encodedSays, asked, kindSays, awaitsSays, awaitedBy}
+use Rattle.at_command.specs.Kind.{Kind, genericOk, simError, writePrompt, closeOk, iccid, signalQuality, systemInfo, operatorInfo, networkTime, downloadInfo, imei, smsMessageFormat, smsMessage}
+use Rattle.at_command.specs.Request.{Asked, answersTo}
+use Rattle.at_command.specs.says.Request.{encodedSays, asked, kindSays, awaitsSays, awaitedBy, EncodeKeeps, AwaitsKeeps}
+use Rattle.at_command.specs.says.Response.{KindKeeps}
+use Rattle.at_command.specs.declared.ResponseCode.{ResponseCode}
 use Rattle.at_command.specs.declared.request.Encoded.{Encoded}
 use Rattle.at_command.specs.declared.request.Encoded.the-variants as E
 use Rattle.at_command.specs.declared.request.Request.{Request}
@@ -30,8 +32,8 @@ encoded-back (E.Refused k) = refl
 -- one answer: cntp::Execute::encode, cntp::SynchronizeNetworkTime::encode, cops::GetOperatorInfo::encode, cops::SetAutomaticOperator::encode
 -- one answer: cops::SetManualOperator::encode, cpsi::GetSystemInfo::encode, csq::GetSignalQuality::encode, gsn::GetImei::encode
 -- one answer: httptofs::DownloadToFileSystem::encode
-pub one-encoded : (a : Asked) (before x y : List ℕ) (r q : Encoded) → Writes a before (encodedSays r) x → Writes a before (encodedSays q) y → (r ≡ q) × (x ≡ y)
-one-encoded a before x y r q f g = (one-answer encodedSays encoded encoded-back r q _ (f .says) (g .says), f .holds ∙ sym (g .holds))
+pub one-encoded : (request : Asked) (before : List ℕ) (a b : Encoded) (after after′ : List ℕ) → EncodeKeeps request before a after → EncodeKeeps request before b after′ → (a ≡ b) × (after ≡ after′)
+one-encoded request before a b after after′ f g = (one-answer encodedSays encoded encoded-back a b _ (f .says) (g .says), f .holds ∙ sym (g .holds))
 
 abbrev pub kind : Kind → ResponseKind
 kind genericOk = K.GenericOk
@@ -74,16 +76,12 @@ awaits-back (One a) = ap One (kind-back a)
 awaits-back (Two a b) = rw (kind-back a, kind-back b)
 
 -- one answer: request::Request::awaits
-pub one-awaits : (q : Request) (a b : Awaits) → awaitsSays a ≡ awaitedBy q → awaitsSays b ≡ awaitedBy q → a ≡ b
-one-awaits q a b = one-answer awaitsSays awaits awaits-back a b (awaitedBy q)
-
--- one answer: request::ResponseKind::place
-pub one-place : (k : ResponseKind) (a b : ℕ) → a ≡ placeOf (kindSays k) → b ≡ placeOf (kindSays k) → a ≡ b
-one-place k a b = one-equal a b (placeOf (kindSays k))
+pub one-awaits : (request : Request) (a b : Awaits) → AwaitsKeeps request a → AwaitsKeeps request b → a ≡ b
+one-awaits request a b = one-answer awaitsSays awaits awaits-back a b _
 
 -- one answer: ResponseCode::kind
-pub one-kind : (a b : ResponseKind) (k : Kind) → kindSays a ≡ k → kindSays b ≡ k → a ≡ b
-one-kind = one-answer kindSays kind kind-back
+pub one-kind : (code : ResponseCode) (a b : ResponseKind) → KindKeeps code a → KindKeeps code b → a ≡ b
+one-kind code a b = one-answer kindSays kind kind-back a b _
 
 -- what a request awaits does not depend on its texts
 pub any-texts : (q : Request) (first second : List ℕ) → answersTo (asked q first second) ≡ awaitedBy q

@@ -1,6 +1,6 @@
 -- Commands as the Rust writes them, and the order of the refusals, each computed.
 use mathlib.Core.Path.{_≡_, refl}
-use mathlib.Core.List.{[], _∷_, _++_}
+use mathlib.Core.List.{[], _∷_}
 use lib.ListN.{replicate}
 use Rattle.text.specs.Bytes.{bytes}
 use Rattle.text.specs.Reading.{read, refused}

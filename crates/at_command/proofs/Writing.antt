@@ -5,12 +5,12 @@ use mathlib.Core.List.{List, [], _∷_, _++_}
 use Prim.Native.Nat.{ℕ, _+_, _≤_, _<_}
 use native.Mathlib.Nat.{zero-add}
 use native.Mathlib.Omega.{arith}
-use lib.ListN.{length, take, drop}
+use lib.ListN.{length, drop}
 use lib.Dec.{ltb}
 use borrow.Author.Tests.{lt-ltb, le-ltb, ltb-false, not-true, not-false}
 use Rattle.text.specs.Bytes.{allWithin}
 use Rattle.text.specs.Reading.{Reading, read, refused, mapped}
-use Rattle.at_command.specs.Lay.{Lays, refusalOf}
+use Rattle.at_command.specs.WriterSteps.{Lays, refusalOf}
 use Rattle.at_command.specs.Request.{Asked, commandOf, Text, upTo, textsOf, anyLong, anyUnfit, fitting, Leaves, Writes}
 
 -- a command that does not fit, and one that was laid

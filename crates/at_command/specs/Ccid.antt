@@ -12,7 +12,7 @@ pub record Card : Type 0 where
   pub issuer : ℕ
   pub account : ℕ
 
--- 19 or 20 bytes, "89" first, then u8, u8 and the rest as u64. A part that is cut inside a character is no number, so it is refused.
+-- 19 or 20 bytes, "89" first, then u8, u8 and the rest as u64. A number that is cut inside a character is so refused (proofs/ccid/Cuts.antt).
 unfoldable pub cardText : List ℕ → Reading Card
 cardText t =
     sized 19 20 t

@@ -2,7 +2,7 @@
 use Prim.Native.Nat.{ℕ, _+_}
 use mathlib.Core.List.{List, [], _∷_}
 use mathlib.Core.Option.{Option, none, some}
-use lib.ListN.{length, drop}
+use lib.ListN.{drop}
 use Rattle.text.specs.Bytes.{bytes, startsWith, has, indexOf}
 use Rattle.text.specs.Part.{Span, spanOf, before, after}
 use Rattle.text.specs.Code.{Entry, is, codeIn}

@@ -1,7 +1,7 @@
 -- +COPS (document 01, "+COPS"; cops.rs; TS 27.007, 7.3): mode, format and name of the operator.
 use mathlib.Core.Path.{_≡_}
 use Prim.Native.Nat.{ℕ, _+_}
-use mathlib.Core.Bool.{Bool, true, false, cond}
+use mathlib.Core.Bool.{cond}
 use mathlib.Core.List.{List, [], _∷_}
 use lib.Dec.{ltb}
 use lib.ListN.{length, drop}
@@ -43,11 +43,10 @@ pub record Operator : Type 0 where
   pub name : Name
 
 unfoldable pub copsFields : List ℕ → List ℕ → List (List ℕ) → Reading Operator
-copsFields format name fs =
+copsFields formatFallback nameFallback fs =
     need (codeIn operatorModes (nth 0 fs)) (λ m.
-    need (codeIn operatorFormats (fieldOr 1 fs format)) (λ f.
-    read (record { mode = m; format = f; name = nameOf fs name })))
+    need (codeIn operatorFormats (fieldOr 1 fs formatFallback)) (λ f.
+    read (record { mode = m; format = f; name = nameOf fs nameFallback })))
 
--- with the two texts lent for format and name
 unfoldable pub copsText : List ℕ → List ℕ → List ℕ → Reading Operator
-copsText format name s = only (startsWith (bytes "+COPS: ") s) (copsFields format name (fields 44 (drop 7 s)))
+copsText formatFallback nameFallback s = only (startsWith (bytes "+COPS: ") s) (copsFields formatFallback nameFallback (fields 44 (drop 7 s)))

@@ -5,7 +5,7 @@ use lib.ListN.{length, drop}
 use Rattle.text.specs.Bytes.{bytes, same, startsWith, endsWith}
 use Rattle.text.specs.Part.{partOf}
 use Rattle.text.specs.Number.{unsigned}
-use Rattle.text.specs.Reading.{Reading, read, refused, Mark, mark, only, either, need}
+use Rattle.text.specs.Reading.{Reading, read, Mark, mark, only, either, need}
 
 -- OK and SHUT OK are GenericOk
 unfoldable pub okText : List ℕ → Reading Mark

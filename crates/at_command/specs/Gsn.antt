@@ -1,6 +1,6 @@
 -- The IMEI (document 01, "Imei"; gsn.rs; TS 23.003, annex B): 15 or 16 digits, the last of which is the check digit of the others.
 use Prim.Native.Nat.{ℕ, _+_, _-_, _*_, _/_, _%_}
-use mathlib.Core.Bool.{Bool, true, false, cond, not}
+use mathlib.Core.Bool.{Bool, false, cond, not}
 use mathlib.Core.List.{List, [], _∷_}
 use lib.Dec.{eqb}
 use lib.ListN.{length, take, getD}

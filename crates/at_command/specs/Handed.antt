@@ -21,9 +21,8 @@ unfoldable pub nameIn : Name → Handed
 nameIn (inLine p) = stands.inLine p
 nameIn (inFallback p) = stands.inFallback p
 
--- with the two texts lent for format and name
 unfoldable pub nameHanded : List ℕ → List ℕ → List ℕ → Handed
-nameHanded s format name = handed (λ (o : Operator). nameIn (o .name)) (checked (copsText format name) s)
+nameHanded s formatFallback nameFallback = handed (λ (o : Operator). nameIn (o .name)) (checked (copsText formatFallback nameFallback) s)
 
 -- the network's time, absent where the line has none
 unfoldable pub timeIn : Option Span → Handed

@@ -10,9 +10,9 @@ pub mod Gsn
 pub mod Handed
 pub mod Httptofs
 pub mod Kind
-pub mod Lay
 pub mod Piece
 pub mod Request
-pub mod Unquoted
 pub mod Response
+pub mod Unquoted
+pub mod WriterSteps
 pub mod says

@@ -48,31 +48,23 @@ kindOf (imei x) = K.imei
 kindOf (format x) = smsMessageFormat
 kindOf (message x) = smsMessage
 
--- the trial uses the fallback texts "0" and "" for +COPS
-unfoldable pub lastReadings : List ℕ → List (Reading Response)
-lastReadings s =
-    mapped time (cntpText s)
-    ∷ mapped download (httptofsText s)
-    ∷ mapped imei (imeiText s)
-    ∷ mapped format (cmgfText s)
-    ∷ mapped message (cmgrText s)
-    ∷ []
-
-unfoldable pub laterReadings : List ℕ → List (Reading Response)
-laterReadings s =
-    mapped iccid (iccidText s)
-    ∷ mapped signal (csqText s)
-    ∷ mapped system (cpsiText s)
-    ∷ mapped operator (copsText (bytes "0") (bytes "") s)
-    ∷ lastReadings s
-
+-- what each of the thirteen says of a line, in the order of trial, which uses the fallback texts "0" and "" for +COPS
 unfoldable pub readings : List ℕ → List (Reading Response)
 readings s =
     mapped ok (okText s)
     ∷ mapped error (errorText s)
     ∷ mapped prompt (promptText s)
     ∷ mapped closeOk (closeText s)
-    ∷ laterReadings s
+    ∷ mapped iccid (iccidText s)
+    ∷ mapped signal (csqText s)
+    ∷ mapped system (cpsiText s)
+    ∷ mapped operator (copsText (bytes "0") (bytes "") s)
+    ∷ mapped time (cntpText s)
+    ∷ mapped download (httptofsText s)
+    ∷ mapped imei (imeiText s)
+    ∷ mapped format (cmgfText s)
+    ∷ mapped message (cmgrText s)
+    ∷ []
 
 -- the first that accepts; else 4 if one said 4; else 3
 unfoldable pub responseText : List ℕ → Reading Response

@@ -8,11 +8,10 @@ use text::number::ParsedU8;
 use text::number::ParsedU64;
 use text::part;
 ghost use mathlib.Core.Path.{_≡_};
-ghost use Rattle.text.specs.Line.{checked};
 ghost use Rattle.at_command.specs.Ccid.{cardText, iccidText};
-ghost use Rattle.at_command.specs.Request.{Writes, showIccid};
-ghost use Rattle.at_command.specs.says.Ccid.{says};
-ghost use Rattle.at_command.specs.says.Request.{encodedSays};
+ghost use Rattle.at_command.specs.Request.{showIccid};
+ghost use Rattle.at_command.specs.says.Ccid.{says, IccidKeeps};
+ghost use Rattle.at_command.specs.says.Request.{EncodeKeeps};
 
 pub struct Iccid {
     pub country: u8,
@@ -62,7 +61,7 @@ impl Iccid {
     }
 
     pub fn from_line(line: &[u8]) -> IccidAnswer
-        ensures { λ r. ⌜ says r ≡ checked iccidText (now (line .entry)) ⌝ }
+        ensures { λ r. ⌜ IccidKeeps (now (line .entry)) r ⌝ }
     {
         let k = line::check_line(line);
         if k != 0 {
@@ -77,7 +76,7 @@ pub struct ShowIccid;
 
 impl ShowIccid {
     pub fn encode(self, out: &mut [u8]) -> Encoded
-        ensures { λ r. ⌜ Writes showIccid (now (out .entry)) (encodedSays r) (now (out .exit)) ⌝ }
+        ensures { λ r. ⌜ EncodeKeeps showIccid (now (out .entry)) r (now (out .exit)) ⌝ }
     {
         write::plain(b"AT+CCID\r", out)
     }

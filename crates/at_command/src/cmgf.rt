@@ -7,11 +7,10 @@ use text::line;
 use text::part;
 ghost use mathlib.Core.Path.{_≡_};
 ghost use Rattle.text.specs.Code.{codeIn};
-ghost use Rattle.text.specs.Line.{checked};
 ghost use Rattle.at_command.specs.Cmgf.{messageFormats, cmgfText};
-ghost use Rattle.at_command.specs.Request.{Writes, getSmsMessageFormat, setSmsMessageFormat};
-ghost use Rattle.at_command.specs.says.Cmgf.{says, codeSays, formatNumber};
-ghost use Rattle.at_command.specs.says.Request.{encodedSays};
+ghost use Rattle.at_command.specs.Request.{getSmsMessageFormat, setSmsMessageFormat};
+ghost use Rattle.at_command.specs.says.Cmgf.{says, codeSays, formatNumber, SmsMessageFormatKeeps};
+ghost use Rattle.at_command.specs.says.Request.{EncodeKeeps};
 
 pub enum SmsMessageFormat {
     Pdu,
@@ -52,7 +51,7 @@ impl SmsMessageFormat {
     }
 
     pub fn from_line(line: &[u8]) -> SmsMessageFormatAnswer
-        ensures { λ r. ⌜ says r ≡ checked cmgfText (now (line .entry)) ⌝ }
+        ensures { λ r. ⌜ SmsMessageFormatKeeps (now (line .entry)) r ⌝ }
     {
         let k = line::check_line(line);
         if k != 0 {
@@ -67,7 +66,7 @@ pub struct GetSmsMessageFormat;
 
 impl GetSmsMessageFormat {
     pub fn encode(self, out: &mut [u8]) -> Encoded
-        ensures { λ r. ⌜ Writes getSmsMessageFormat (now (out .entry)) (encodedSays r) (now (out .exit)) ⌝ }
+        ensures { λ r. ⌜ EncodeKeeps getSmsMessageFormat (now (out .entry)) r (now (out .exit)) ⌝ }
     {
         write::plain(b"AT+CMGF?\r", out)
     }
@@ -78,7 +77,7 @@ pub struct SetSmsMessageFormat(pub SmsMessageFormat);
 
 impl SetSmsMessageFormat {
     pub fn encode(self, out: &mut [u8]) -> Encoded
-        ensures { λ r. ⌜ Writes (setSmsMessageFormat (formatNumber (self .0))) (now (out .entry)) (encodedSays r) (now (out .exit)) ⌝ }
+        ensures { λ r. ⌜ EncodeKeeps (setSmsMessageFormat (formatNumber (self .0))) (now (out .entry)) r (now (out .exit)) ⌝ }
     {
         let format = self.0;
         match format {

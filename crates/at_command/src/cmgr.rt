@@ -14,14 +14,12 @@ use text::reader;
 ghost use mathlib.Core.Path.{_≡_};
 ghost use lib.ListN.{drop};
 ghost use Rattle.text.specs.Field.{fields};
-ghost use Rattle.text.specs.Handed.{IsHanded, HandsOut};
-ghost use Rattle.text.specs.Line.{checked};
-ghost use Rattle.text.specs.says.Handed.{atSays};
+ghost use Rattle.text.specs.says.Handed.{atSays, TextKeeps};
 ghost use Rattle.at_command.specs.Cmgr.{cmgrFields, cmgrText};
 ghost use Rattle.at_command.specs.Handed.{senderHanded};
-ghost use Rattle.at_command.specs.Request.{Writes, readSms};
-ghost use Rattle.at_command.specs.says.Cmgr.{says};
-ghost use Rattle.at_command.specs.says.Request.{encodedSays};
+ghost use Rattle.at_command.specs.Request.{readSms};
+ghost use Rattle.at_command.specs.says.Cmgr.{says, SmsMessageKeeps};
+ghost use Rattle.at_command.specs.says.Request.{EncodeKeeps};
 
 // The sender's place in the line. The message's text is empty, as in the Rust.
 pub struct SmsMessage {
@@ -60,7 +58,7 @@ impl SmsMessage {
     }
 
     pub fn from_line(line: &[u8]) -> SmsMessageAnswer
-        ensures { λ r. ⌜ says r ≡ checked cmgrText (now (line .entry)) ⌝ }
+        ensures { λ r. ⌜ SmsMessageKeeps (now (line .entry)) r ⌝ }
     {
         let k = line::check_line(line);
         if k != 0 {
@@ -79,16 +77,9 @@ impl SmsMessage {
         }
     }
 
-    // The sender; empty where the line is refused.
-    pub fn sender_part(line: &[u8]) -> &[u8]
-        ensures { λ t. ⌜ IsHanded (line .entry) (line .entry) (senderHanded (now (line .entry))) t ⌝ }
-    {
-        handed::cut(SmsMessage::sender_at(line), line, line)
-    }
-
-    // The sender with the number of the refusal.
+    // The sender, empty where the line is refused, with the number of the refusal.
     pub fn sender_text<'a>(line: &'a [u8]) -> LineText<'a>
-        ensures { λ r. ⌜ HandsOut (line .entry) (line .entry) (senderHanded (now (line .entry))) (r .text) (r .refusal) ⌝ }
+        ensures { λ r. ⌜ TextKeeps (line .entry) (line .entry) (senderHanded (now (line .entry))) r ⌝ }
     {
         let at = SmsMessage::sender_at(line);
         let text = handed::cut(at, line, line);
@@ -106,7 +97,7 @@ pub struct ReadSms {
 
 impl ReadSms {
     pub fn encode(self, out: &mut [u8]) -> Encoded
-        ensures { λ r. ⌜ Writes (readSms (self .index)) (now (out .entry)) (encodedSays r) (now (out .exit)) ⌝ }
+        ensures { λ r. ⌜ EncodeKeeps (readSms (self .index)) (now (out .entry)) r (now (out .exit)) ⌝ }
     {
         let index = self.index as u16;
         if out.len() < 9 + write::decimal_size(index) {
@@ -114,6 +105,6 @@ impl ReadSms {
         }
         let at = write::lay(b"AT+CMGR=", 0, out);
         let at = write::lay_decimal(index, at, out);
-        Encoded::Size(write::lay(b"\r", at, out))
+        Encoded::Size(write::lay_byte(b'\r', at, out))
     }
 }

@@ -13,16 +13,14 @@ ghost use mathlib.Core.Path.{_≡_};
 ghost use Prim.Native.Nat.{_+_, _≤_};
 ghost use lib.ListN.{drop, length};
 ghost use Rattle.text.specs.Code.{codeIn};
-ghost use Rattle.text.specs.Handed.{IsHanded, HandsOut};
-ghost use Rattle.text.specs.Line.{checked};
-ghost use Rattle.text.specs.says.Handed.{atSays};
+ghost use Rattle.text.specs.says.Handed.{atSays, TextKeeps};
 ghost use Rattle.at_command.specs.Cntp.{ntpCodes, cntpRest, cntpText};
 ghost use Rattle.at_command.specs.Handed.{timeIn, timeHanded};
-ghost use Rattle.at_command.specs.Lay.{Lays};
+ghost use Rattle.at_command.specs.WriterSteps.{Lays};
 ghost use Rattle.at_command.specs.Piece.{quoted, decimal};
-ghost use Rattle.at_command.specs.Request.{Writes, commandOf, synchronizeNetworkTime, execute};
-ghost use Rattle.at_command.specs.says.Cntp.{says, codeSays, timeSays};
-ghost use Rattle.at_command.specs.says.Request.{encodedSays};
+ghost use Rattle.at_command.specs.Request.{commandOf, synchronizeNetworkTime, execute};
+ghost use Rattle.at_command.specs.says.Cntp.{says, codeSays, timeSays, NetworkTimeKeeps};
+ghost use Rattle.at_command.specs.says.Request.{EncodeKeeps};
 
 pub enum SyncNtpStatusCode {
     Success,
@@ -116,7 +114,7 @@ impl NetworkTime {
     }
 
     pub fn from_line(line: &[u8]) -> NetworkTimeAnswer
-        ensures { λ r. ⌜ says r ≡ checked cntpText (now (line .entry)) ⌝ }
+        ensures { λ r. ⌜ NetworkTimeKeeps (now (line .entry)) r ⌝ }
     {
         let k = line::check_line(line);
         if k != 0 {
@@ -138,16 +136,9 @@ impl NetworkTime {
         }
     }
 
-    // The time; empty where the line has none, or is refused.
-    pub fn time_part(line: &[u8]) -> &[u8]
-        ensures { λ t. ⌜ IsHanded (line .entry) (line .entry) (timeHanded (now (line .entry))) t ⌝ }
-    {
-        handed::cut(NetworkTime::time_at(line), line, line)
-    }
-
-    // The time with the number of the refusal.
+    // The time, empty where the line is refused or has none, with the number of the refusal.
     pub fn time_text<'a>(line: &'a [u8]) -> LineText<'a>
-        ensures { λ r. ⌜ HandsOut (line .entry) (line .entry) (timeHanded (now (line .entry))) (r .text) (r .refusal) ⌝ }
+        ensures { λ r. ⌜ TextKeeps (line .entry) (line .entry) (timeHanded (now (line .entry))) r ⌝ }
     {
         let at = NetworkTime::time_at(line);
         let text = handed::cut(at, line, line);
@@ -166,7 +157,7 @@ pub struct SynchronizeNetworkTime {
 
 impl SynchronizeNetworkTime {
     pub fn encode(self, ntp_server: &[u8], out: &mut [u8]) -> Encoded
-        ensures { λ r. ⌜ Writes (synchronizeNetworkTime (now («ntp_server» .entry)) (self .timezone) (self .cid)) (now (out .entry)) (encodedSays r) (now (out .exit)) ⌝ }
+        ensures { λ r. ⌜ EncodeKeeps (synchronizeNetworkTime (now («ntp_server» .entry)) (self .timezone) (self .cid)) (now (out .entry)) r (now (out .exit)) ⌝ }
     {
         let refusal = write::refusal(ntp_server, 64, b"", 0);
         if 0 < refusal {
@@ -189,11 +180,11 @@ fn lay_sync(ntp_server: &[u8], timezone: u16, cid: u16, out: &mut [u8]) -> usize
 {
     let at = write::lay(b"AT+CNTP=", 0, out);
     let at = write::lay_quoted(ntp_server, at, out);
-    let at = write::lay(b",", at, out);
+    let at = write::lay_byte(b',', at, out);
     let at = write::lay_decimal(timezone, at, out);
-    let at = write::lay(b",", at, out);
+    let at = write::lay_byte(b',', at, out);
     let at = write::lay_decimal(cid, at, out);
-    write::lay(b"\r", at, out)
+    write::lay_byte(b'\r', at, out)
 }
 
 // AT+CNTP
@@ -201,7 +192,7 @@ pub struct Execute;
 
 impl Execute {
     pub fn encode(self, out: &mut [u8]) -> Encoded
-        ensures { λ r. ⌜ Writes execute (now (out .entry)) (encodedSays r) (now (out .exit)) ⌝ }
+        ensures { λ r. ⌜ EncodeKeeps execute (now (out .entry)) r (now (out .exit)) ⌝ }
     {
         write::plain(b"AT+CNTP\r", out)
     }

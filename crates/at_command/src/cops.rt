@@ -17,15 +17,13 @@ ghost use Prim.Native.Nat.{_+_, _≤_};
 ghost use lib.ListN.{drop, length};
 ghost use Rattle.text.specs.Code.{codeIn};
 ghost use Rattle.text.specs.Field.{fields};
-ghost use Rattle.text.specs.Handed.{IsHanded, HandsOut};
-ghost use Rattle.text.specs.Line.{checked};
-ghost use Rattle.text.specs.says.Handed.{atSays};
+ghost use Rattle.text.specs.says.Handed.{atSays, TextKeeps};
 ghost use Rattle.at_command.specs.Cops.{operatorModes, operatorFormats, FieldOr, nameOf, copsFields, copsText};
 ghost use Rattle.at_command.specs.Handed.{nameIn, nameHanded};
-ghost use Rattle.at_command.specs.Lay.{Lays};
-ghost use Rattle.at_command.specs.Request.{Writes, commandOf, getOperatorInfo, setManualOperator, setAutomaticOperator};
-ghost use Rattle.at_command.specs.says.Cops.{says, modeSays, formatSays, nameSays};
-ghost use Rattle.at_command.specs.says.Request.{encodedSays};
+ghost use Rattle.at_command.specs.WriterSteps.{Lays};
+ghost use Rattle.at_command.specs.Request.{commandOf, getOperatorInfo, setManualOperator, setAutomaticOperator};
+ghost use Rattle.at_command.specs.says.Cops.{says, modeSays, formatSays, nameSays, OperatorInfoKeeps};
+ghost use Rattle.at_command.specs.says.Request.{EncodeKeeps};
 
 pub enum OperatorMode {
     Automatic,
@@ -115,20 +113,24 @@ fn name_of(line: &[u8], fallback: &[u8]) -> OperatorName
     })
 }
 
-fn operator_info<'a>(line: &'a [u8], format: &'a [u8], name: &'a [u8]) -> OperatorInfoAnswer
-    ensures { λ r. ⌜ says r ≡ copsFields (now (format .entry)) (now (name .entry)) (fields 44 (drop 7 (now (line .entry)))) ⌝ }
+fn operator_info<'a>(
+    line: &'a [u8],
+    format_fallback: &'a [u8],
+    name_fallback: &'a [u8],
+) -> OperatorInfoAnswer
+    ensures { λ r. ⌜ says r ≡ copsFields (now («format_fallback» .entry)) (now («name_fallback» .entry)) (fields 44 (drop 7 (now (line .entry)))) ⌝ }
 {
     let rest = part::skip(line, 7);
     let ModeCode::Is(mode) = mode_of(reader::nth_field(rest, 0)) else {
         return OperatorInfoAnswer::Refused(3);
     };
-    let FormatCode::Is(read) = format_of(field_or(rest, 1, format)) else {
+    let FormatCode::Is(format) = format_of(field_or(rest, 1, format_fallback)) else {
         return OperatorInfoAnswer::Refused(3);
     };
     OperatorInfoAnswer::Value(OperatorInfo {
         mode,
-        format: read,
-        operator_name: name_of(line, name),
+        format,
+        operator_name: name_of(line, name_fallback),
     })
 }
 
@@ -145,32 +147,36 @@ fn place_of(name: OperatorName) -> TextAt
 impl OperatorInfo {
     pub(crate) fn from_checked<'a>(
         line: &'a [u8],
-        format: &'a [u8],
-        name: &'a [u8],
+        format_fallback: &'a [u8],
+        name_fallback: &'a [u8],
     ) -> OperatorInfoAnswer
-        ensures { λ r. ⌜ says r ≡ copsText (now (format .entry)) (now (name .entry)) (now (line .entry)) ⌝ }
+        ensures { λ r. ⌜ says r ≡ copsText (now («format_fallback» .entry)) (now («name_fallback» .entry)) (now (line .entry)) ⌝ }
     {
         if !bytes::starts_with(line, b"+COPS: ") {
             return OperatorInfoAnswer::Refused(3);
         }
-        operator_info(line, format, name)
+        operator_info(line, format_fallback, name_fallback)
     }
 
-    pub fn from_line<'a>(line: &'a [u8], format: &'a [u8], name: &'a [u8]) -> OperatorInfoAnswer
-        ensures { λ r. ⌜ says r ≡ checked (copsText (now (format .entry)) (now (name .entry))) (now (line .entry)) ⌝ }
+    pub fn from_line<'a>(
+        line: &'a [u8],
+        format_fallback: &'a [u8],
+        name_fallback: &'a [u8],
+    ) -> OperatorInfoAnswer
+        ensures { λ r. ⌜ OperatorInfoKeeps (now (line .entry)) (now («format_fallback» .entry)) (now («name_fallback» .entry)) r ⌝ }
     {
         let k = line::check_line(line);
         if k != 0 {
             return OperatorInfoAnswer::Refused(k);
         }
-        OperatorInfo::from_checked(line, format, name)
+        OperatorInfo::from_checked(line, format_fallback, name_fallback)
     }
 
     // Where the name stands, in the line or in the text lent for it.
-    fn name_at<'a>(line: &'a [u8], format: &'a [u8], name: &'a [u8]) -> TextAt
-        ensures { λ r. ⌜ atSays r ≡ nameHanded (now (line .entry)) (now (format .entry)) (now (name .entry)) ⌝ }
+    fn name_at<'a>(line: &'a [u8], format_fallback: &'a [u8], name_fallback: &'a [u8]) -> TextAt
+        ensures { λ r. ⌜ atSays r ≡ nameHanded (now (line .entry)) (now («format_fallback» .entry)) (now («name_fallback» .entry)) ⌝ }
     {
-        match OperatorInfo::from_line(line, format, name) {
+        match OperatorInfo::from_line(line, format_fallback, name_fallback) {
             OperatorInfoAnswer::Value(v) => {
                 let name = v.operator_name;
                 place_of(name)
@@ -179,19 +185,16 @@ impl OperatorInfo {
         }
     }
 
-    // The name; empty where the line is refused.
-    pub fn name_part<'a>(line: &'a [u8], format: &'a [u8], name: &'a [u8]) -> &'a [u8]
-        ensures { λ t. ⌜ IsHanded (line .entry) (name .entry) (nameHanded (now (line .entry)) (now (format .entry)) (now (name .entry))) t ⌝ }
+    // The name, empty where the line is refused, with the number of the refusal.
+    pub fn name_text<'a>(
+        line: &'a [u8],
+        format_fallback: &'a [u8],
+        name_fallback: &'a [u8],
+    ) -> LineText<'a>
+        ensures { λ r. ⌜ TextKeeps (line .entry) («name_fallback» .entry) (nameHanded (now (line .entry)) (now («format_fallback» .entry)) (now («name_fallback» .entry))) r ⌝ }
     {
-        handed::cut(OperatorInfo::name_at(line, format, name), line, name)
-    }
-
-    // The name with the number of the refusal.
-    pub fn name_text<'a>(line: &'a [u8], format: &'a [u8], name: &'a [u8]) -> LineText<'a>
-        ensures { λ r. ⌜ HandsOut (line .entry) (name .entry) (nameHanded (now (line .entry)) (now (format .entry)) (now (name .entry))) (r .text) (r .refusal) ⌝ }
-    {
-        let at = OperatorInfo::name_at(line, format, name);
-        let text = handed::cut(at, line, name);
+        let at = OperatorInfo::name_at(line, format_fallback, name_fallback);
+        let text = handed::cut(at, line, name_fallback);
         LineText {
             text,
             refusal: at.refusal,
@@ -204,7 +207,7 @@ pub struct GetOperatorInfo;
 
 impl GetOperatorInfo {
     pub fn encode(self, out: &mut [u8]) -> Encoded
-        ensures { λ r. ⌜ Writes getOperatorInfo (now (out .entry)) (encodedSays r) (now (out .exit)) ⌝ }
+        ensures { λ r. ⌜ EncodeKeeps getOperatorInfo (now (out .entry)) r (now (out .exit)) ⌝ }
     {
         write::plain(b"AT+COPS?\r", out)
     }
@@ -215,7 +218,7 @@ pub struct SetManualOperator;
 
 impl SetManualOperator {
     pub fn encode(self, plmn: &[u8], out: &mut [u8]) -> Encoded
-        ensures { λ r. ⌜ Writes (setManualOperator (now (plmn .entry))) (now (out .entry)) (encodedSays r) (now (out .exit)) ⌝ }
+        ensures { λ r. ⌜ EncodeKeeps (setManualOperator (now (plmn .entry))) (now (out .entry)) r (now (out .exit)) ⌝ }
     {
         let refusal = write::refusal(plmn, 6, b"", 0);
         if 0 < refusal {
@@ -235,8 +238,8 @@ fn lay_manual(plmn: &[u8], out: &mut [u8]) -> usize
 {
     let at = write::lay(b"AT+COPS=1,2,\"", 0, out);
     let at = write::lay(plmn, at, out);
-    let at = write::lay(b"\"", at, out);
-    write::lay(b"\r", at, out)
+    let at = write::lay_byte(b'"', at, out);
+    write::lay_byte(b'\r', at, out)
 }
 
 // AT+COPS=0: the modem chooses.
@@ -244,7 +247,7 @@ pub struct SetAutomaticOperator;
 
 impl SetAutomaticOperator {
     pub fn encode(self, out: &mut [u8]) -> Encoded
-        ensures { λ r. ⌜ Writes setAutomaticOperator (now (out .entry)) (encodedSays r) (now (out .exit)) ⌝ }
+        ensures { λ r. ⌜ EncodeKeeps setAutomaticOperator (now (out .entry)) r (now (out .exit)) ⌝ }
     {
         write::plain(b"AT+COPS=0\r", out)
     }

@@ -10,11 +10,10 @@ use text::reader;
 ghost use mathlib.Core.Path.{_≡_};
 ghost use Rattle.text.specs.Code.{codeIn};
 ghost use Rattle.text.specs.Field.{fields};
-ghost use Rattle.text.specs.Line.{checked};
 ghost use Rattle.at_command.specs.Cpsi.{systemModes, operationModes, cpsiFields, cpsiText};
-ghost use Rattle.at_command.specs.Request.{Writes, getSystemInfo};
-ghost use Rattle.at_command.specs.says.Cpsi.{says, systemSays, operationSays};
-ghost use Rattle.at_command.specs.says.Request.{encodedSays};
+ghost use Rattle.at_command.specs.Request.{getSystemInfo};
+ghost use Rattle.at_command.specs.says.Cpsi.{says, systemSays, operationSays, SystemInfoKeeps};
+ghost use Rattle.at_command.specs.says.Request.{EncodeKeeps};
 
 pub enum SystemMode {
     NoService,
@@ -105,7 +104,7 @@ impl SystemInfo {
     }
 
     pub fn from_line(line: &[u8]) -> SystemInfoAnswer
-        ensures { λ r. ⌜ says r ≡ checked cpsiText (now (line .entry)) ⌝ }
+        ensures { λ r. ⌜ SystemInfoKeeps (now (line .entry)) r ⌝ }
     {
         let k = line::check_line(line);
         if k != 0 {
@@ -120,7 +119,7 @@ pub struct GetSystemInfo;
 
 impl GetSystemInfo {
     pub fn encode(self, out: &mut [u8]) -> Encoded
-        ensures { λ r. ⌜ Writes getSystemInfo (now (out .entry)) (encodedSays r) (now (out .exit)) ⌝ }
+        ensures { λ r. ⌜ EncodeKeeps getSystemInfo (now (out .entry)) r (now (out .exit)) ⌝ }
     {
         write::plain(b"AT+CPSI?\r", out)
     }

@@ -8,11 +8,10 @@ use text::number::ParsedU8;
 use text::part;
 ghost use mathlib.Core.Path.{_≡_};
 ghost use Prim.Native.Nat.{_≤_};
-ghost use Rattle.text.specs.Line.{checked};
 ghost use Rattle.at_command.specs.Csq.{dbmOf, strengthOf, qualityOf, levelOf, csqCodes, csqRest, csqText};
-ghost use Rattle.at_command.specs.Request.{Writes, getSignalQuality};
-ghost use Rattle.at_command.specs.says.Csq.{says, codeSays};
-ghost use Rattle.at_command.specs.says.Request.{encodedSays};
+ghost use Rattle.at_command.specs.Request.{getSignalQuality};
+ghost use Rattle.at_command.specs.says.Csq.{says, codeSays, SignalQualityKeeps};
+ghost use Rattle.at_command.specs.says.Request.{EncodeKeeps};
 
 // A percentage, where it is known.
 pub enum SignalLevel {
@@ -127,7 +126,7 @@ impl SignalQuality {
     }
 
     pub fn from_line(line: &[u8]) -> SignalQualityAnswer
-        ensures { λ r. ⌜ says r ≡ checked csqText (now (line .entry)) ⌝ }
+        ensures { λ r. ⌜ SignalQualityKeeps (now (line .entry)) r ⌝ }
     {
         let k = line::check_line(line);
         if k != 0 {
@@ -142,7 +141,7 @@ pub struct GetSignalQuality;
 
 impl GetSignalQuality {
     pub fn encode(self, out: &mut [u8]) -> Encoded
-        ensures { λ r. ⌜ Writes getSignalQuality (now (out .entry)) (encodedSays r) (now (out .exit)) ⌝ }
+        ensures { λ r. ⌜ EncodeKeeps getSignalQuality (now (out .entry)) r (now (out .exit)) ⌝ }
     {
         write::plain(b"AT+CSQ\r", out)
     }

@@ -6,9 +6,8 @@ use text::number::ParsedU32;
 use text::number::ParsedU64;
 use text::part;
 ghost use mathlib.Core.Path.{_≡_};
-ghost use Rattle.text.specs.Line.{checked};
 ghost use Rattle.at_command.specs.Generic.{okText, errorText, promptText, closeText};
-ghost use Rattle.at_command.specs.says.Generic.{okSays, errorSays, promptSays, closeSays};
+ghost use Rattle.at_command.specs.says.Generic.{okSays, errorSays, promptSays, closeSays, GenericOkKeeps, SimErrorKeeps, WritePromptKeeps, CloseOkKeeps};
 
 pub struct GenericOk;
 
@@ -63,7 +62,7 @@ impl GenericOk {
     }
 
     pub fn from_line(line: &[u8]) -> GenericOkAnswer
-        ensures { λ r. ⌜ okSays r ≡ checked okText (now (line .entry)) ⌝ }
+        ensures { λ r. ⌜ GenericOkKeeps (now (line .entry)) r ⌝ }
     {
         let k = line::check_line(line);
         if k != 0 {
@@ -96,7 +95,7 @@ impl SimError {
     }
 
     pub fn from_line(line: &[u8]) -> SimErrorAnswer
-        ensures { λ r. ⌜ errorSays r ≡ checked errorText (now (line .entry)) ⌝ }
+        ensures { λ r. ⌜ SimErrorKeeps (now (line .entry)) r ⌝ }
     {
         let k = line::check_line(line);
         if k != 0 {
@@ -117,7 +116,7 @@ impl WritePrompt {
     }
 
     pub fn from_line(line: &[u8]) -> WritePromptAnswer
-        ensures { λ r. ⌜ promptSays r ≡ checked promptText (now (line .entry)) ⌝ }
+        ensures { λ r. ⌜ WritePromptKeeps (now (line .entry)) r ⌝ }
     {
         let k = line::check_line(line);
         if k != 0 {
@@ -142,7 +141,7 @@ impl CloseOk {
     }
 
     pub fn from_line(line: &[u8]) -> CloseOkAnswer
-        ensures { λ r. ⌜ closeSays r ≡ checked closeText (now (line .entry)) ⌝ }
+        ensures { λ r. ⌜ CloseOkKeeps (now (line .entry)) r ⌝ }
     {
         let k = line::check_line(line);
         if k != 0 {

@@ -13,14 +13,12 @@ ghost use mathlib.Core.Path.{_≡_};
 ghost use Prim.Native.Nat.{_≤_};
 ghost use lib.ListN.{length};
 ghost use Rattle.text.specs.Bytes.{allDigits};
-ghost use Rattle.text.specs.Handed.{IsHanded, HandsOut};
-ghost use Rattle.text.specs.Line.{checked};
-ghost use Rattle.text.specs.says.Handed.{atSays};
+ghost use Rattle.text.specs.says.Handed.{atSays, TextKeeps};
 ghost use Rattle.at_command.specs.Gsn.{doubled, checkDigit, imeiText};
 ghost use Rattle.at_command.specs.Handed.{imeiHanded};
-ghost use Rattle.at_command.specs.Request.{Writes, getImei};
-ghost use Rattle.at_command.specs.says.Gsn.{says};
-ghost use Rattle.at_command.specs.says.Request.{encodedSays};
+ghost use Rattle.at_command.specs.Request.{getImei};
+ghost use Rattle.at_command.specs.says.Gsn.{says, ImeiKeeps};
+ghost use Rattle.at_command.specs.says.Request.{EncodeKeeps};
 
 // The IMEI's place, which is the whole line.
 pub struct Imei {
@@ -87,7 +85,7 @@ impl Imei {
     }
 
     pub fn from_line(line: &[u8]) -> ImeiAnswer
-        ensures { λ r. ⌜ says r ≡ checked imeiText (now (line .entry)) ⌝ }
+        ensures { λ r. ⌜ ImeiKeeps (now (line .entry)) r ⌝ }
     {
         let k = line::check_line(line);
         if k != 0 {
@@ -106,16 +104,9 @@ impl Imei {
         }
     }
 
-    // The IMEI; empty where the line is refused.
-    pub fn imei_part(line: &[u8]) -> &[u8]
-        ensures { λ t. ⌜ IsHanded (line .entry) (line .entry) (imeiHanded (now (line .entry))) t ⌝ }
-    {
-        handed::cut(Imei::imei_at(line), line, line)
-    }
-
-    // The IMEI with the number of the refusal.
+    // The IMEI, empty where the line is refused, with the number of the refusal.
     pub fn imei_text<'a>(line: &'a [u8]) -> LineText<'a>
-        ensures { λ r. ⌜ HandsOut (line .entry) (line .entry) (imeiHanded (now (line .entry))) (r .text) (r .refusal) ⌝ }
+        ensures { λ r. ⌜ TextKeeps (line .entry) (line .entry) (imeiHanded (now (line .entry))) r ⌝ }
     {
         let at = Imei::imei_at(line);
         let text = handed::cut(at, line, line);
@@ -131,7 +122,7 @@ pub struct GetImei;
 
 impl GetImei {
     pub fn encode(self, out: &mut [u8]) -> Encoded
-        ensures { λ r. ⌜ Writes getImei (now (out .entry)) (encodedSays r) (now (out .exit)) ⌝ }
+        ensures { λ r. ⌜ EncodeKeeps getImei (now (out .entry)) r (now (out .exit)) ⌝ }
     {
         write::plain(b"AT+GSN\r", out)
     }

@@ -10,16 +10,16 @@ use text::part;
 ghost use mathlib.Core.Path.{_≡_};
 ghost use Prim.Native.Nat.{_+_, _≤_};
 ghost use lib.ListN.{length};
+ghost use Rattle.text.specs.Gives.{Gives};
 ghost use Rattle.text.specs.Code.{codeIn};
-ghost use Rattle.text.specs.Line.{checked};
 ghost use Rattle.text.specs.Number.{unsigned};
 ghost use Rattle.text.specs.Part.{after};
 ghost use Rattle.at_command.specs.Httptofs.{httpCodes, orZero, downloadOf, httptofsText};
-ghost use Rattle.at_command.specs.Lay.{Lays};
+ghost use Rattle.at_command.specs.WriterSteps.{Lays};
 ghost use Rattle.at_command.specs.Piece.{quoted};
-ghost use Rattle.at_command.specs.Request.{Writes, commandOf, downloadToFileSystem};
-ghost use Rattle.at_command.specs.says.Httptofs.{says, statusNumber, infoSays, successSays, succeeded};
-ghost use Rattle.at_command.specs.says.Request.{encodedSays};
+ghost use Rattle.at_command.specs.Request.{commandOf, downloadToFileSystem};
+ghost use Rattle.at_command.specs.says.Httptofs.{says, statusNumber, infoSays, DownloadInfoKeeps, SuccessKeeps};
+ghost use Rattle.at_command.specs.says.Request.{EncodeKeeps};
 
 pub enum StatusCode {
     Continue,
@@ -57,7 +57,7 @@ pub enum Success {
 impl StatusCode {
     // The code's number, 0 for OtherErrors.
     pub fn number(self) -> u16
-        ensures { λ r. ⌜ r ≡ statusNumber self ⌝ }
+        ensures { λ r. ⌜ Gives (statusNumber self) r ⌝ }
     {
         match self {
             StatusCode::Continue => 100,
@@ -78,7 +78,7 @@ impl StatusCode {
     }
 
     pub fn success(self) -> Success
-        ensures { λ r. ⌜ successSays r ≡ succeeded (statusNumber self) ⌝ }
+        ensures { λ r. ⌜ SuccessKeeps self r ⌝ }
     {
         if self.number() == 200 {
             return Success::Ok;
@@ -137,7 +137,7 @@ impl DownloadInfo {
     }
 
     pub fn from_line(line: &[u8]) -> DownloadInfoAnswer
-        ensures { λ r. ⌜ says r ≡ checked httptofsText (now (line .entry)) ⌝ }
+        ensures { λ r. ⌜ DownloadInfoKeeps (now (line .entry)) r ⌝ }
     {
         let k = line::check_line(line);
         if k != 0 {
@@ -152,7 +152,7 @@ pub struct DownloadToFileSystem;
 
 impl DownloadToFileSystem {
     pub fn encode(self, url: &[u8], file_path: &[u8], out: &mut [u8]) -> Encoded
-        ensures { λ r. ⌜ Writes (downloadToFileSystem (now (url .entry)) (now («file_path» .entry))) (now (out .entry)) (encodedSays r) (now (out .exit)) ⌝ }
+        ensures { λ r. ⌜ EncodeKeeps (downloadToFileSystem (now (url .entry)) (now («file_path» .entry))) (now (out .entry)) r (now (out .exit)) ⌝ }
     {
         let refusal = write::refusal(url, 64, file_path, 32);
         if 0 < refusal {
@@ -172,7 +172,7 @@ fn lay_download(url: &[u8], file_path: &[u8], out: &mut [u8]) -> usize
 {
     let at = write::lay(b"AT+HTTPTOFS=", 0, out);
     let at = write::lay_quoted(url, at, out);
-    let at = write::lay(b",", at, out);
+    let at = write::lay_byte(b',', at, out);
     let at = write::lay_quoted(file_path, at, out);
-    write::lay(b"\r", at, out)
+    write::lay_byte(b'\r', at, out)
 }

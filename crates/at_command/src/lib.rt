@@ -1,41 +1,55 @@
-// The modem's commands and the responses to them, a module for each file of the Rust's at_command.
-use ccid::Iccid;
+// The modem's commands and the responses to them, a module for each file of the Rust's at_command; what that names at its root is named here.
+pub use ccid::Iccid;
 use ccid::IccidAnswer;
-use cmgf::SmsMessageFormat;
+pub use ccid::ShowIccid;
+pub use cmgf::GetSmsMessageFormat;
+pub use cmgf::SetSmsMessageFormat;
+pub use cmgf::SmsMessageFormat;
 use cmgf::SmsMessageFormatAnswer;
 use cmgr::SmsMessage;
 use cmgr::SmsMessageAnswer;
+pub use cntp::Execute;
 use cntp::NetworkTime;
 use cntp::NetworkTimeAnswer;
-use cops::OperatorInfo;
+pub use cntp::SynchronizeNetworkTime;
+pub use cops::GetOperatorInfo;
+pub use cops::OperatorFormat;
+pub use cops::OperatorInfo;
 use cops::OperatorInfoAnswer;
-use cpsi::SystemInfo;
+pub use cops::OperatorMode;
+pub use cops::SetAutomaticOperator;
+pub use cops::SetManualOperator;
+pub use cpsi::GetSystemInfo;
+pub use cpsi::SystemInfo;
 use cpsi::SystemInfoAnswer;
-use csq::SignalQuality;
+pub use cpsi::SystemMode;
+pub use csq::GetSignalQuality;
+pub use csq::SignalQuality;
 use csq::SignalQualityAnswer;
-use generic_response::CloseOk;
+pub use generic_response::CloseOk;
 use generic_response::CloseOkAnswer;
-use generic_response::GenericOk;
+pub use generic_response::GenericOk;
 use generic_response::GenericOkAnswer;
-use generic_response::SimError;
+pub use generic_response::SimError;
 use generic_response::SimErrorAnswer;
-use generic_response::WritePrompt;
+pub use generic_response::WritePrompt;
 use generic_response::WritePromptAnswer;
-use gsn::Imei;
+pub use gsn::GetImei;
+pub use gsn::Imei;
 use gsn::ImeiAnswer;
 use httptofs::DownloadInfo;
 use httptofs::DownloadInfoAnswer;
+pub use httptofs::DownloadToFileSystem;
 pub use request::Awaits;
 pub use request::Encoded;
 pub use request::Request;
 pub use request::ResponseKind;
 use text::line;
 ghost use mathlib.Core.Path.{_≡_};
-ghost use Rattle.text.specs.Line.{checked};
+ghost use lib.ListN.{drop};
 ghost use Rattle.text.specs.Reading.{firstOf};
-ghost use Rattle.at_command.specs.Response.{kindOf, lastReadings, laterReadings, readings, responseText};
-ghost use Rattle.at_command.specs.says.Request.{kindSays};
-ghost use Rattle.at_command.specs.says.Response.{codeSays, says};
+ghost use Rattle.at_command.specs.Response.{readings, responseText};
+ghost use Rattle.at_command.specs.says.Response.{says, ResponseCodeKeeps, KindKeeps};
 
 pub mod ccid;
 pub mod cmgf;
@@ -74,7 +88,7 @@ pub enum ResponseCodeAnswer {
 
 // The last five readers, tried after others whose refusal is j.
 fn last_readers(line: &[u8], j: u8) -> ResponseCodeAnswer
-    ensures { λ r. ⌜ says r ≡ firstOf j (lastReadings (now (line .entry))) ⌝ }
+    ensures { λ r. ⌜ says r ≡ firstOf j (drop 8 (readings (now (line .entry)))) ⌝ }
 {
     let j1 = match NetworkTime::from_checked(line) {
         NetworkTimeAnswer::Value(v) => return ResponseCodeAnswer::Value(ResponseCode::NetworkTime(
@@ -105,7 +119,7 @@ fn last_readers(line: &[u8], j: u8) -> ResponseCodeAnswer
 
 // The readers from Iccid on, tried after others whose refusal is j.
 fn later_readers(line: &[u8], j: u8) -> ResponseCodeAnswer
-    ensures { λ r. ⌜ says r ≡ firstOf j (laterReadings (now (line .entry))) ⌝ }
+    ensures { λ r. ⌜ says r ≡ firstOf j (drop 4 (readings (now (line .entry)))) ⌝ }
 {
     let j1 = match Iccid::from_checked(line) {
         IccidAnswer::Value(v) => return ResponseCodeAnswer::Value(ResponseCode::Iccid(v)),
@@ -151,7 +165,7 @@ impl ResponseCode {
     }
 
     pub fn from_line(line: &[u8]) -> ResponseCodeAnswer
-        ensures { λ r. ⌜ says r ≡ checked responseText (now (line .entry)) ⌝ }
+        ensures { λ r. ⌜ ResponseCodeKeeps (now (line .entry)) r ⌝ }
     {
         let k = line::check_line(line);
         if k != 0 {
@@ -161,7 +175,7 @@ impl ResponseCode {
     }
 
     pub fn kind(self) -> ResponseKind
-        ensures { λ r. ⌜ kindSays r ≡ kindOf (codeSays self) ⌝ }
+        ensures { λ r. ⌜ KindKeeps self r ⌝ }
     {
         match self {
             ResponseCode::Ok(_) => ResponseKind::GenericOk,

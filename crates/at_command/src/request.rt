@@ -14,9 +14,9 @@ use crate::csq::GetSignalQuality;
 use crate::gsn::GetImei;
 use crate::httptofs::DownloadToFileSystem;
 ghost use mathlib.Core.Path.{_≡_};
+ghost use Rattle.text.specs.Gives.{Gives};
 ghost use Rattle.at_command.specs.Kind.{placeOf};
-ghost use Rattle.at_command.specs.Request.{Writes};
-ghost use Rattle.at_command.specs.says.Request.{kindSays, encodedSays, asked, awaitsSays, awaitedBy};
+ghost use Rattle.at_command.specs.says.Request.{kindSays, asked, EncodeKeeps, AwaitsKeeps};
 
 // The size of the command that was written, or the refusal: 5, 6 or 7.
 pub enum Encoded {
@@ -44,7 +44,7 @@ pub enum ResponseKind {
 impl ResponseKind {
     // How many kinds are tried before this one.
     pub fn place(self) -> u8
-        ensures { λ r. ⌜ r ≡ placeOf (kindSays self) ⌝ }
+        ensures { λ r. ⌜ Gives (placeOf (kindSays self)) r ⌝ }
     {
         match self {
             ResponseKind::GenericOk => 0,
@@ -89,7 +89,7 @@ pub enum Request {
 
 impl Request {
     pub fn awaits(self) -> Awaits
-        ensures { λ r. ⌜ awaitsSays r ≡ awaitedBy self ⌝ }
+        ensures { λ r. ⌜ AwaitsKeeps self r ⌝ }
     {
         match self {
             Request::GetSignalQuality => Awaits::Two(
@@ -132,7 +132,7 @@ impl Request {
     // SetManualOperator's plmn, SynchronizeNetworkTime's ntp_server and DownloadToFileSystem's url are `first`, and the last one's
     // file_path is `second`; the other requests have no texts.
     pub fn encode(self, first: &[u8], second: &[u8], out: &mut [u8]) -> Encoded
-        ensures { λ r. ⌜ Writes (asked self (now (first .entry)) (now (second .entry))) (now (out .entry)) (encodedSays r) (now (out .exit)) ⌝ }
+        ensures { λ r. ⌜ EncodeKeeps (asked self (now (first .entry)) (now (second .entry))) (now (out .entry)) r (now (out .exit)) ⌝ }
     {
         match self {
             Request::GetSignalQuality => GetSignalQuality.encode(out),

@@ -1,11 +1,12 @@
 // Laying a command into a lent buffer, piece behind piece.
 use crate::request::Encoded;
 use text::bytes;
+use text::copy;
 ghost use mathlib.Core.Path.{_≡_};
 ghost use mathlib.Core.List.{[], _∷_};
-ghost use Prim.Native.Nat.{_+_, _%_, _≤_};
+ghost use Prim.Native.Nat.{_+_, _%_, _≤_, _<_};
 ghost use lib.ListN.{length};
-ghost use Rattle.at_command.specs.Lay.{Lays, lastDigits, HasDigits, refusalOf};
+ghost use Rattle.at_command.specs.WriterSteps.{Lays, lastDigits, HasDigits, refusalOf};
 ghost use Rattle.at_command.specs.Piece.{marked, escaped, quoted, decimal};
 ghost use Rattle.at_command.specs.Request.{upTo, fitting, Leaves};
 ghost use Rattle.at_command.specs.says.Request.{encodedSays};
@@ -34,12 +35,16 @@ pub(crate) fn lay(piece: &[u8], at: usize, out: &mut [u8]) -> usize
     requires { ⌜ at + length (now piece) ≤ length (now out) ⌝ }
     ensures { λ r. ⌜ Lays (now (piece .entry)) at (now (out .entry)) r (now (out .exit)) ⌝ }
 {
-    let mut i = 0;
-    while i < piece.len() {
-        out[at + i] = piece[i];
-        i += 1;
-    }
-    at + i
+    copy::lay(piece, at, out)
+}
+
+// The same of one byte.
+pub(crate) fn lay_byte(x: u8, at: usize, out: &mut [u8]) -> usize
+    requires { ⌜ at < length (now out) ⌝ }
+    ensures { λ r. ⌜ Lays (x ∷ []) at (now (out .entry)) r (now (out .exit)) ⌝ }
+{
+    out[at] = x;
+    at + 1
 }
 
 // Whether x is a quote or a backslash.
@@ -80,9 +85,9 @@ pub(crate) fn lay_quoted(piece: &[u8], at: usize, out: &mut [u8]) -> usize
     requires { ⌜ at + length (quoted (now piece)) ≤ length (now out) ⌝ }
     ensures { λ r. ⌜ Lays (quoted (now (piece .entry))) at (now (out .entry)) r (now (out .exit)) ⌝ }
 {
-    let a = lay(b"\"", at, out);
+    let a = lay_byte(b'"', at, out);
     let e = lay_escaped(piece, a, out);
-    lay(b"\"", e, out)
+    lay_byte(b'"', e, out)
 }
 
 // How many bytes that takes.

@@ -2,12 +2,13 @@
 use Prim.Native.Nat.{ℕ}
 use mathlib.Core.Path.{_≡_, sym, ap, _∙_}
 use mathlib.Core.List.{List}
-use Rattle.bench.specs.Bench.{Left, left, feeds}
+use Rattle.bench.specs.Bench.{Left, BenchFeedKeeps}
 
 -- with `line`, `len`, `text` and `told`
 -- one answer: bench_feed
-pub one-feed : {x : Left} (r q : ℕ) (l k : List ℕ) (n m : ℕ) (s t v w : List ℕ) → left r l n s v ≡ x → left q k m t w ≡ x
-    → (r ≡ q) × (l ≡ k) × (n ≡ m) × (s ≡ t) × (v ≡ w)
-one-feed r q l k n m s t v w e f =
+pub one-feed : (line : List ℕ) (len : ℕ) (chunk text told : List ℕ) (r q : ℕ) (line′ line″ : List ℕ) (len′ len″ : ℕ) (text′ text″ told′ told″ : List ℕ)
+    → BenchFeedKeeps line len chunk text told r line′ len′ text′ told′ → BenchFeedKeeps line len chunk text told q line″ len″ text″ told″
+    → (r ≡ q) × (line′ ≡ line″) × (len′ ≡ len″) × (text′ ≡ text″) × (told′ ≡ told″)
+one-feed line len chunk text told r q line′ line″ len′ len″ text′ text″ told′ told″ e f =
     let g = e ∙ sym f in
     (ap (λ (x : Left). x .answer) g, ap (λ (x : Left). x .line) g, ap (λ (x : Left). x .len) g, ap (λ (x : Left). x .text) g, ap (λ (x : Left). x .told) g)

@@ -3,8 +3,7 @@ use desk::Command;
 use desk::Cutter;
 use desk::Desk;
 use desk::FedAnswer;
-ghost use mathlib.Core.Path.{_≡_};
-ghost use Rattle.bench.specs.Bench.{left, feeds};
+ghost use Rattle.bench.specs.Bench.{BenchFeedKeeps};
 
 // 10, with all as before; or 1 with an event and 0 without one, and told has the bytes taken and the size of the line in text.
 #[no_mangle]
@@ -15,7 +14,7 @@ pub extern "C" fn bench_feed(
     text: &mut [u8],
     told: &mut [usize; 2],
 ) -> u8
-    ensures { λ r. ⌜ left r (now (line .exit)) (now (len .exit)) (now (text .exit)) (now (told .exit)) ≡ feeds (now (line .entry)) (now (len .entry)) (now (chunk .entry)) (now (text .entry)) (now (told .entry)) ⌝ }
+    ensures { λ r. ⌜ BenchFeedKeeps (now (line .entry)) (now (len .entry)) (now (chunk .entry)) (now (text .entry)) (now (told .entry)) r (now (line .exit)) (now (len .exit)) (now (text .exit)) (now (told .exit)) ⌝ }
 {
     let bytes = *line;
     let held = *len;

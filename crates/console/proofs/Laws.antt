@@ -1,15 +1,27 @@
 -- A number's digits, laid; a part within its whole; the end of a line. Assumes nothing.
-use mathlib.Core.Path.{_≡_, sym, ap, subst, _∙_}
+use mathlib.Core.Path.{_≡_, subst}
 use mathlib.Core.List.{List}
-use Prim.Native.Nat.{ℕ, _-_, _≤_, _<_}
+use Prim.Native.Nat.{ℕ, _+_, _-_, _≤_, _<_}
 use native.Mathlib.Omega.{arith}
 use lib.ListN.{length, take, length-take, length-drop}
 use denote.Ref.{RefT, now}
-use borrow.Author.Tests.{lt-ltb, le-ltb}
+use borrow.Author.Tests.{lt-leb, le-leb, lt-ltb, le-ltb}
 use Rattle.io.specs.Digits.{digits, Fewest}
 use Rattle.text.specs.Bytes.{bytes}
+use Rattle.text.specs.Copy.{LayKeeps}
 use Rattle.text.specs.Part.{partOf, IsPart}
-use Rattle.console.specs.Output.{Puts, PutsNumber, EndsLine}
+use Rattle.text.proofs.Copying.{whole-ends, whole-holds}
+use Rattle.console.specs.Output.{Puts, PutsNumber, EndsLine, hasRoom}
+
+-- a text that has no room, and one that has, laid by `lay`
+module _ (s : List ℕ) (at : ℕ) (b : List ℕ) where
+  pub left-out : length b < at + length s → Puts s at b at b
+  unfolding hasRoom
+  left-out h = record { ends = rw (lt-leb _ _ h); holds = rw (lt-leb _ _ h) }
+
+  pub laid : (e : ℕ) (x : List ℕ) → at + length s ≤ length b → LayKeeps s at b e x → Puts s at b e x
+  unfolding hasRoom
+  laid e x h l = record { ends = rw (le-leb _ _ h) (whole-ends s at b e x h l); holds = rw (le-leb _ _ h) (whole-holds s at b e x h l) }
 
 pub shown : (base least n k : ℕ) (d b x : List ℕ) (at e : ℕ) → Fewest base least n k → take k d ≡ digits base k n → Puts (take k d) at b e x → PutsNumber base least n at b e x
 shown base least n k d b x at e f s p = record { places = k; fewest = f; puts = subst (λ (t : List ℕ). Puts t at b e x) s p }

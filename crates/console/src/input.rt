@@ -1,11 +1,12 @@
 // Lines of standard input, cut at LF in a lent buffer.
 use libc::STDIN_FILENO;
 use text::bytes;
+use text::copy;
 use text::part;
 use text::part::Place;
 ghost use Prim.Native.Nat.{_+_, _≤_};
 ghost use lib.ListN.{length};
-ghost use Rattle.console.specs.Input.{Within};
+ghost use Rattle.console.specs.Input.{NextLineKeeps};
 
 // A line's place in the buffer, and that of what is read and not cut yet; or the end of the input.
 pub enum Next {
@@ -13,20 +14,11 @@ pub enum Next {
     End,
 }
 
-fn least(a: usize, b: usize) -> usize
-    ensures { λ r. ⌜ (r ≤ a) × (r ≤ b) ⌝ }
-{
-    if a < b {
-        return a;
-    }
-    b
-}
-
 // Moves the bytes from start up to end to the front, half a buffer at most, and says how many.
 fn keep(buffer: &mut [u8], start: usize, end: usize) -> usize
     ensures { λ r. ⌜ r ≤ length (now (buffer .exit)) ⌝ }
 {
-    let n = least(part::part(buffer, start, end).len(), buffer.len() / 2);
+    let n = copy::least(part::part(buffer, start, end).len(), buffer.len() / 2);
     let mut i = 0;
     while i < n {
         buffer[i] = buffer[start + i];
@@ -47,7 +39,7 @@ fn fill(buffer: &mut [u8], n: usize) -> usize
 // The next line, with what is read behind it in `rest`. A last line needs no LF. A line of more than half the buffer is handed out without some of its
 // bytes, and is then still as long as half the buffer.
 pub fn next_line(buffer: &mut [u8], rest: Place) -> Next
-    ensures { λ r. ⌜ Within r (length (now (buffer .exit))) ⌝ }
+    ensures { λ r. ⌜ NextLineKeeps r (now (buffer .exit)) ⌝ }
 {
     let mut start = rest.start;
     let mut end = rest.end;

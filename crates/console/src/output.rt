@@ -1,11 +1,11 @@
 // Texts and numbers laid into a lent buffer, one behind the other. Each call says where the next one goes; what has no room is left out.
 use libc::STDOUT_FILENO;
 use numeral::bits;
+use text::copy;
 use text::part;
-ghost use mathlib.Core.Path.{_≡_};
 ghost use Prim.Native.Nat.{_-_};
-ghost use Rattle.numeral.specs.Bits.{bitsOf};
-ghost use Rattle.console.specs.Output.{Puts, PutsNumber, EndsLine};
+ghost use Rattle.text.specs.Gives.{Gives};
+ghost use Rattle.console.specs.Output.{Puts, PutsNumber, PutsDecimal, PutsFloat, EndsLine};
 
 // A line has this much room at least when it begins.
 const ROOM: usize = 1024;
@@ -19,17 +19,12 @@ pub fn put(out: &mut [u8], at: usize, s: &[u8]) -> usize
     if out.len() - at < s.len() {
         return at;
     }
-    let mut i = 0;
-    while i < s.len() {
-        out[at + i] = s[i];
-        i += 1;
-    }
-    at + i
+    copy::lay(s, at, out)
 }
 
 // The number in decimal.
 pub fn put_decimal(out: &mut [u8], at: usize, n: u64) -> usize
-    ensures { λ r. ⌜ PutsNumber 10 1 n at (now (out .entry)) r (now (out .exit)) ⌝ }
+    ensures { λ r. ⌜ PutsDecimal n at (now (out .entry)) r (now (out .exit)) ⌝ }
 {
     let mut digits = [0u8; 20];
     let k = io::decimal(n, &mut digits);
@@ -47,7 +42,7 @@ fn put_hex(out: &mut [u8], at: usize, n: u32) -> usize
 
 // The bits of a float.
 pub fn put_float(out: &mut [u8], at: usize, x: f32) -> usize
-    ensures { λ r. ⌜ PutsNumber 16 8 (bitsOf x) at (now (out .entry)) r (now (out .exit)) ⌝ }
+    ensures { λ r. ⌜ PutsFloat x at (now (out .entry)) r (now (out .exit)) ⌝ }
 {
     put_hex(out, at, bits::bits_of(x))
 }
@@ -59,7 +54,7 @@ pub fn flush(out: &[u8], n: usize) {
 
 // Past this index a buffer of n bytes is nearly full.
 fn nearly_full(n: usize) -> usize
-    ensures { λ r. ⌜ r ≡ n - 1024 ⌝ }
+    ensures { λ r. ⌜ Gives (n - 1024) r ⌝ }
 {
     if n < ROOM {
         return 0;

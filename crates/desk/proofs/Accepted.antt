@@ -1,7 +1,7 @@
--- Every complete line that the unsolicited readers accept may be slipped in, and every such line with its LF is complete.
+-- Every complete line that the unsolicited readers accept may be slipped in, and every such line with its LF is complete, CR and LF in front of it or not.
 use Prim.Native.Nat.{ℕ, _-_, _≤_, _<_}
 use mathlib.Core.Path.{_≡_, refl, sym, ap, _∙_}
-use mathlib.Core.Bool.{true, false}
+use mathlib.Core.Bool.{true, false, and-false}
 use mathlib.Core.Logic.{⊎-elim}
 use mathlib.Core.List.{List, [], _∷_, _++_, append-nil}
 use native.Mathlib.Omega.{arith}
@@ -10,19 +10,21 @@ use lib.Seq.{length-take-le, getD-take, append-snoc}
 use lib.Dec.{ltb, eqb}
 use borrow.Author.Tests.{le-ltb, ltb-true, ltb-false, eqb-true, eqb-false, ne-eqb}
 use Rattle.text.specs.Bytes.{bytes, same, startsWith, endsWith, countOf}
-use Rattle.text.specs.Reading.{Reading, read, refused}
+use Rattle.text.specs.Reading.{Reading, read, mapped}
 use Rattle.text.specs.Line.{lineCheck, checked}
 use Rattle.text.proofs.LineLaws.{check-long}
-use Rattle.at_command.specs.Response.{Response, responseText}
-use Rattle.unsolicited.specs.Urc.{Unsolicited, urcText}
-use Rattle.desk.specs.Cut.{View, held, Piece, bare, long, isPrompt, ended, cutOne, cutAll, viewAfter}
-use Rattle.desk.specs.Kind.{unsolicited, lineKind}
-use Rattle.desk.specs.Script.{lines, Complete, Slip}
-use Rattle.desk.proofs.Basics.{both, and-false, never}
+use Rattle.unsolicited.specs.Urc.{Unsolicited, urcText, begins}
+use Rattle.unsolicited.proofs.Prefixes.{urc-cases}
+use Rattle.desk.specs.Cut.{View, held, Piece, bare, long, isPrompt, ended, cutOne}
+use Rattle.trial.specs.Sort.{unsolicited, sortOf, lineSort}
+use Rattle.trial.proofs.Turns.{said-begun}
+use Rattle.desk.specs.Machine.{shown, tells, after}
+use Rattle.desk.specs.Lines.{line, lineOf, cutter, linesOf, Whole}
+use Rattle.desk.specs.Rules.{Plain}
+use Rattle.desk.specs.Demand.{May, unasked}
+use Rattle.text.proofs.Tests.{both, never}
 use Rattle.desk.proofs.Cutting.{bare-bounds, ended-line, cut-lf, cut-held}
-use Rattle.desk.proofs.Sorting.{kind-urc}
 use Rattle.desk.proofs.Slips.{lf-view}
-use Rattle.desk.proofs.Apart.{apart}
 
 -- ---- what the unsolicited readers accept is unsolicited to the desk
 
@@ -37,13 +39,31 @@ checked-read reader l e =
     (λ f. let g = rw f at e in never (cc))
     (both (eqb (lineCheck l) 0))
 
-module _ (l : List ℕ) {u : Unsolicited} (e : checked urcText l ≡ read u) where
-  by-trial : (r : Reading Response) → checked responseText l ≡ r → lineKind l ≡ read unsolicited
-  by-trial (read r) f = absurd (apart .alone l (sym (checked-read urcText l e .says)) (sym (checked-read responseText l f .says)))
-  by-trial (refused j) f = sym (kind-urc l (sym f) (sym e))
+-- the line has a first byte, and it is not ">"
+record Front (l : List ℕ) : Type 0 where
+  pub first : ℕ
+  pub rest : List ℕ
+  pub is : l ≡ first ∷ rest
+  pub other : first ≡ 62 → ⊥
 
-pub accepted-slip : (bytes l : List ℕ) {u : Unsolicited} → Complete bytes l → checked urcText l ≡ read u → Slip bytes l
-accepted-slip bytes l c e = record { complete = c; kind = by-trial l e (checked responseText l) refl }
+plus : (s : List ℕ) → Front (43 ∷ s)
+plus s = record { first = 43; rest = s; is = refl; other = λ e. omega arith }
+
+urc-front : (l : List ℕ) (u : Unsolicited) → urcText l ≡ read u → Front l
+urc-front l = urc-cases Front l (λ t. plus _) (λ t. plus _) (λ t. plus _) (λ t. plus _)
+
+urc-begins : (l : List ℕ) (u : Unsolicited) → urcText l ≡ read u → begins l ≡ true
+unfolding begins startsWith
+urc-begins l = urc-cases (λ (s : List ℕ). begins s ≡ true) l (λ t. refl) (λ t. refl) (λ t. refl) (λ t. refl)
+
+sort-unsolicited : (l : List ℕ) (u : Unsolicited) → checked urcText l ≡ read u → lineSort l ≡ read unsolicited
+unfolding lineSort mapped
+sort-unsolicited l u e =
+    let begun = urc-begins l u (sym (checked-read urcText l e .says)) in
+    ap (mapped sortOf) (sym (said-begun l true (sym begun) refl (sym e)))
+
+pub accepted-may : (s : Plain) (w l : List ℕ) {u : Unsolicited} → s .wire ≡ held [] → Whole w → linesOf w ≡ line l ∷ [] → checked urcText l ≡ read u → May s w
+accepted-may s w l start whole is e = unasked l start whole is (sort-unsolicited l _ e)
 
 -- ---- a line and its LF
 
@@ -66,8 +86,8 @@ prompt-not [] b bs e = refl
 prompt-not (x ∷ h) b bs e = rw (ne-eqb x 62 e) (and-false (eqb (length (x ∷ h ++ b ∷ [])) 2))
 
 line-cut : (raw h : List ℕ) → countOf 10 raw ≡ 0 → length (bare (h ++ raw)) ≤ 256 → (getD (h ++ raw) 0 0 ≡ 62 → ⊥)
-    → lines (cutAll (held h) (raw ++ 10 ∷ [])) ≡ lines (ended (bare (h ++ raw)) ∷ [])
-unfolding cutAll
+    → tells cutter (held h) (raw ++ 10 ∷ []) ≡ shown (lineOf (ended (bare (h ++ raw)))) []
+unfolding tells cutter
 line-cut [] h n s f = rw (append-nil h, cut-lf h 10 refl)
 line-cut (b ∷ bs) h n s f =
     ⊎-elim
@@ -79,8 +99,8 @@ line-cut (b ∷ bs) h n s f =
     (rw next at (line-cut bs (h ++ b ∷ []) (omega arith) (rw next s) (rw next f))))
     (both (eqb b 10))
 
-view-lf : (v : View) (raw : List ℕ) → viewAfter v (raw ++ 10 ∷ []) ≡ held []
-unfolding viewAfter
+view-lf : (v : View) (raw : List ℕ) → after cutter v (raw ++ 10 ∷ []) ≡ held []
+unfolding after cutter
 view-lf v [] = lf-view v 10 refl
 view-lf v (b ∷ bs) = view-lf (cutOne v b .view) bs
 
@@ -91,16 +111,21 @@ front-bare raw h =
     (both (endsWith (bytes "\r") raw))
 
 -- raw has no LF, and without its CR it is a line that the unsolicited readers accept: with an LF it is complete
-pub line-complete : (raw : List ℕ) {u : Unsolicited} → countOf 10 raw ≡ 0 → checked urcText (bare raw) ≡ read u → Complete (raw ++ 10 ∷ []) (bare raw)
-line-complete raw n e =
-    let p = checked-read urcText (bare raw) e in
-    let short = short-checked (bare raw) (p .check) in
-    let front = apart .front (bare raw) (sym (p .says)) in
-    let more : 0 < length (bare raw) = rw (front .is) (omega arith) in
-    let first : getD raw 0 0 ≡ front .first = sym (front-bare raw more) ∙ ap (λ (x : List ℕ). getD x 0 0) (front .is) in
-    record {
-      one =
-          line-cut raw [] n short (λ f. front .other (sym first ∙ f))
-          ∙ ap (λ (q : Piece). lines (q ∷ [])) (ended-line (bare raw) short (λ k. omega arith));
-      whole = view-lf (held []) raw;
-    }
+module _ (raw : List ℕ) {u : Unsolicited} (n : countOf 10 raw ≡ 0) (e : checked urcText (bare raw) ≡ read u) where
+  one-line : linesOf (raw ++ 10 ∷ []) ≡ line (bare raw) ∷ []
+  one-line =
+      let p = checked-read urcText (bare raw) e in
+      let short = short-checked (bare raw) (p .check) in
+      let front = urc-front (bare raw) _ (sym (p .says)) in
+      let more : 0 < length (bare raw) = rw (front .is) (omega arith) in
+      let first : getD raw 0 0 ≡ front .first = sym (front-bare raw more) ∙ ap (λ (x : List ℕ). getD x 0 0) (front .is) in
+      line-cut raw [] n short (λ f. front .other (sym first ∙ f))
+      ∙ ap (λ (q : Piece). shown (lineOf q) []) (ended-line (bare raw) short (λ k. omega arith))
+
+  pub accepted : (s : Plain) → s .wire ≡ held [] → May s (raw ++ 10 ∷ [])
+  accepted s start = accepted-may s (raw ++ 10 ∷ []) (bare raw) start (view-lf (held []) raw) one-line e
+
+  -- as modems frame it
+  pub accepted-framed : (s : Plain) → s .wire ≡ held [] → May s (13 ∷ 10 ∷ raw ++ 10 ∷ [])
+  unfolding tells after cutter cutOne bare same startsWith endsWith
+  accepted-framed s start = accepted-may s (13 ∷ 10 ∷ raw ++ 10 ∷ []) (bare raw) start (view-lf (held []) raw) one-line e

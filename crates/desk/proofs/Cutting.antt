@@ -1,7 +1,7 @@
 -- Laws of cutting: one byte behind those that are held, on paper and in the buffer.
 use Prim.Native.Nat.{ℕ, suc, _+_, _-_, _≤_, _<_}
 use mathlib.Core.Path.{_≡_, refl, sym, ap, _∙_}
-use mathlib.Core.Bool.{Bool, true, false, cond, _&&_, not}
+use mathlib.Core.Bool.{Bool, true, false, cond, _&&_, not, and-true, and-false}
 use mathlib.Core.Logic.{⊎-elim}
 use mathlib.Core.List.{List, [], _∷_, _++_}
 use native.Mathlib.Omega.{arith}
@@ -14,7 +14,7 @@ use Rattle.text.proofs.Finding.{other-length}
 use Rattle.desk.specs.Cut.{View, dropping, held, Piece, nothing, blank, overlong, line, Cut, bare, long, isPrompt, ended, cutOne}
 use Rattle.desk.specs.Desk.{Tray, viewOf, lenOf, laidBytes, layOne}
 use Rattle.desk.specs.Search.{trayOf, Pushed, pushOne, Past}
-use Rattle.desk.proofs.Basics.{both, and-true, and-false, never}
+use Rattle.text.proofs.Tests.{both, never}
 
 snoc-length : (h : List ℕ) (b : ℕ) → length (h ++ b ∷ []) ≡ length h + 1
 snoc-length h b = length-append h (b ∷ [])

@@ -1,4 +1,4 @@
--- Demand 3, for the same bytes: a call shows what the rules give for the bytes that it took, a run of calls likewise, and an open that succeeds leaves nothing of the past.
+-- Demand 3: a feed that keeps its contract is a feed of the desk's machine, an open that succeeds leaves nothing of the past, and so a session shows what the rules give.
 use Prim.Native.Nat.{ℕ}
 use mathlib.Core.Path.{_≡_, refl, sym, ap, subst, _∙_}
 use mathlib.Core.Bool.{Bool, true, false}
@@ -9,153 +9,151 @@ use lib.ListN.{length, take, drop}
 use lib.Seq.{take-append-seam}
 use lib.Dec.{ltb}
 use Rattle.text.specs.Reading.{Reading, read, refused}
-use Rattle.at_command.specs.Kind.{Kind}
-use Rattle.at_command.specs.says.Request.{awaitedBy}
-use Rattle.at_command.specs.declared.request.Request.{Request}
-use Rattle.desk.specs.Cut.{View, dropping, held, Piece, nothing, blank, overlong, line, cutOne, cutAll, viewAfter}
-use Rattle.desk.specs.Judge.{isOpen}
-use Rattle.desk.specs.Rules.{Seen, Verdict, silent, judgePiece, shown, judgeAll, rulesOf}
-use Rattle.desk.specs.Desk.{Tray, State, viewOf, layAll, stops, countOf, pieceIn, heardOf, textOf, takenOf, verdictOf, Fed, heard, fed, isClear, Opened, opened, openedWith}
-use Rattle.desk.specs.Says.{stateOf, answerSays, fedSays}
-use Rattle.desk.specs.Demand.{FeedCall, Feeds, accepts, Run, Session, takenBy, seenBy, bytesOf, seenOf, Demand3, LentFeed, RunLent, asFeed, Demand3-lent}
-use Rattle.desk.specs.declared.Desk.{Desk}
-use Rattle.desk.proofs.Basics.{both, never}
+use Rattle.desk.specs.Cut.{View, dropping, held, cutOne}
+use Rattle.trial.specs.Sort.{lineSort}
+use Rattle.desk.specs.Machine.{shown, tells, feed, told, taken, judgeAll}
+use Rattle.desk.specs.Lines.{lineOf, cutter}
+use Rattle.desk.specs.Judge.{Seen, Command, isOpen, judge}
+use Rattle.desk.specs.Rules.{rulesOf, Plain, plain, fresh}
+use Rattle.desk.specs.Desk.{Tray, viewOf, buffered, State, viewed, desk, heardOf, textOf, Fed, heard, fed, isClear, Opened, openedWith, opened}
+use Rattle.desk.specs.Says.{stateIn, stateOf, fedSays, partsSays, openedSays, openedPartsSays, fedLentSays, openedLentSays}
+use Rattle.desk.specs.Demand.{Turn, Openings, Feeds, accepts, takenBy, seenBy, bytesOf, seenOf, May, Run, ends, feeds, Session, Demand3, Demand3-slipped}
+use Rattle.desk.specs.Calls as By
+use Rattle.desk.specs.Calls.{DeskOpens, DeskFeeds}
+use Rattle.text.proofs.Tests.{both, never}
+use Rattle.desk.proofs.Machine.{told-tells, tells-along, judged-tells}
 use Rattle.desk.proofs.Cutting.{view-lay}
+use Rattle.desk.proofs.Slips.{slips-leave, may-back, slipped-unasked}
 
--- ---- one chunk
+no-answer : {A : Type 0} {t : Bool} → t ≡ true → t ≡ false → A
+no-answer e f = let z : true ≡ false = sym e ∙ f in never (cc)
 
-pub cut-join : (v : View) (bs rest : List ℕ) → cutAll v (bs ++ rest) ≡ cutAll v bs ++ cutAll (viewAfter v bs) rest
-unfolding cutAll viewAfter
-cut-join v [] rest = refl
-cut-join v (b ∷ bs) rest = ap (λ (ps : List Piece). cutOne v b .piece ∷ ps) (cut-join (cutOne v b .view) bs rest)
+-- ---- the buffer shows in nothing that is told
 
-view-all : (t : Tray) (bs : List ℕ) → viewOf (layAll t bs) ≡ viewAfter (viewOf t) bs
-unfolding layAll viewAfter
-view-all t [] = refl
-view-all t (b ∷ bs) = view-all _ bs ∙ ap (λ (v : View). viewAfter v bs) (view-lay t b)
+same-lines : (t : Tray) (b : ℕ) → cutter (viewOf t) b ≡ record { state = viewOf (buffered t b .state); tell = buffered t b .tell }
+unfolding cutter buffered
+same-lines t b = ap (λ (v : View). record { state = v; tell = lineOf (cutOne (viewOf t) b .piece) }) (sym (view-lay t b))
 
--- a piece that stops no feed shows nothing
-quiet-piece : (awaited : List Kind) (p : Piece) → stops p ≡ false → judgePiece awaited p ≡ silent awaited
-unfolding judgePiece
-quiet-piece awaited nothing e = refl
-quiet-piece awaited blank e = refl
-quiet-piece awaited overlong e = never (cc)
-quiet-piece awaited (line l) e = never (cc)
+pub by-view : (s : State) (bytes : List ℕ) → tells desk s bytes ≡ tells plain (viewed s) bytes
+by-view s bytes =
+    judged-tells (judge lineSort) buffered s bytes
+    ∙ ap (judgeAll (judge lineSort) (s .command)) (sym (tells-along buffered cutter viewOf same-lines (s .wire) bytes))
+    ∙ sym (judged-tells (judge lineSort) cutter (viewed s) bytes)
 
-abbrev judgeFrom : Verdict → List Piece → List Seen
-judgeFrom v ps = shown (v .seen) (judgeAll (v .awaited) ps)
+pub plain-ruled : (c : Command) (bytes : List ℕ) → tells plain (fresh c) bytes ≡ rulesOf c bytes
+plain-ruled c bytes = judged-tells (judge lineSort) cutter (fresh c) bytes
 
--- the bytes of a chunk that a feed takes are judged as the piece that it stops at
-chunk-judged : (awaited : List Kind) (v : View) (bs rest : List ℕ)
-    → judgeAll awaited (cutAll v (take (countOf v bs) bs ++ rest)) ≡ judgeFrom (judgePiece awaited (pieceIn v bs)) (cutAll (viewAfter v (take (countOf v bs) bs)) rest)
-unfolding cutAll viewAfter countOf pieceIn judgeAll
-chunk-judged awaited v [] rest = rw (quiet-piece awaited nothing refl)
-chunk-judged awaited v (b ∷ bs) rest =
-    ⊎-elim (λ e. rw e)
-    (λ e. let q = quiet-piece awaited (cutOne v b .piece) e in rw e (rw q (chunk-judged awaited (cutOne v b .view) bs rest)))
-    (both (stops (cutOne v b .piece)))
-
--- ---- one call
+-- ---- a feed that is not refused is a feed of the machine, as its caller sees it
 
 heard-taken : (n : ℕ) (o : Option Seen) → takenBy (read (heardOf n o)) ≡ n
 heard-taken n none = refl
 heard-taken n (some x) = refl
 
-heard-seen : (n : ℕ) (o : Option Seen) (text : List ℕ) (l : List Seen) → seenBy (read (heardOf n o)) (textOf o text) ++ l ≡ shown o l
-heard-seen n none text l = refl
-heard-seen n (some x) text l =
-    ap (λ (s : List ℕ). record { event = x .event; line = s } ∷ l) (take-append-seam (x .line) (drop (length (x .line)) text))
+heard-seen : (n : ℕ) (o : Option Seen) (text : List ℕ) → seenBy (read (heardOf n o)) (textOf o text) ≡ o
+heard-seen n none text = refl
+heard-seen n (some x) text =
+    ap (λ (s : List ℕ). some (record { event = x .event; line = s })) (take-append-seam (x .line) (drop (length (x .line)) text))
 
-no-answer : {A : Type 0} {t : Bool} → t ≡ true → t ≡ false → A
-no-answer e f = let z : true ≡ false = sym e ∙ f in never (cc)
+abbrev pub IsFeed : State → List ℕ → Fed → Type 0
+IsFeed s chunk f = feed desk s chunk ≡ record { taken = takenBy (f .answer); tell = seenBy (f .answer) (f .text); state = f .state }
 
-abbrev judgeState : State → List ℕ → List Seen
-judgeState s bytes = judgeAll (s .awaited) (cutAll (viewOf (s .tray)) bytes)
+heard-feed : (s : State) (chunk text : List ℕ) → IsFeed s chunk (heard (feed desk s chunk) text)
+heard-feed s chunk text =
+    let f = feed desk s chunk in
+    rw (heard-taken (f .taken) (f .tell), heard-seen (f .taken) (f .tell) text)
 
--- what a feed's answer shows, and what the rules give for the bytes that it took
-abbrev Judged : State → List ℕ → List ℕ → Fed → Type 0
-Judged s chunk rest f = seenBy (f .answer) (f .text) ++ judgeState (f .state) rest ≡ judgeState s (take (takenBy (f .answer)) chunk ++ rest)
+fed-feed : (s : State) (chunk text : List ℕ) → accepts (fed s chunk text .answer) ≡ true → IsFeed s chunk (fed s chunk text)
+unfolding fed
+fed-feed s chunk text a = ⊎-elim (λ e. no-answer a (rw e)) (λ e. rw e (heard-feed s chunk text)) (both (ltb (length text) 256))
 
-module _ (s : State) (chunk text rest : List ℕ) where
-  heard-judged : Judged s chunk rest (heard s chunk text)
-  heard-judged =
-      rw (heard-taken (takenOf s chunk) (verdictOf s chunk .seen), view-all (s .tray) (take (takenOf s chunk) chunk))
-      (heard-seen (takenOf s chunk) (verdictOf s chunk .seen) text (judgeAll (verdictOf s chunk .awaited) (cutAll (viewAfter (viewOf (s .tray)) (take (takenOf s chunk) chunk)) rest))
-      ∙ sym (chunk-judged (s .awaited) (viewOf (s .tray)) chunk rest))
+pub kept-feed : (s : State) (chunk text : List ℕ) (f : Fed) → f ≡ fed s chunk text → accepts (f .answer) ≡ true → IsFeed s chunk f
+kept-feed s chunk text f e a =
+    subst (λ (g : Fed). IsFeed s chunk g) (sym e) (fed-feed s chunk text (ap (λ (g : Fed). accepts (g .answer)) (sym e) ∙ a))
 
-  fed-judged : accepts (fed s chunk text .answer) ≡ true → Judged s chunk rest (fed s chunk text)
-  unfolding fed
-  fed-judged a = ⊎-elim (λ e. no-answer a (rw e)) (λ e. rw e heard-judged) (both (ltb (length text) 256))
-
-call-judged : (d : Desk) (c : FeedCall) (rest : List ℕ) → Feeds d c → accepts (answerSays (c .answer .answer)) ≡ true → Judged (stateOf d) (c .chunk) rest (fedSays (c .answer) (c .after))
-call-judged d c rest kept a =
-    subst (λ (f : Fed). Judged (stateOf d) (c .chunk) rest f) (sym kept) (fed-judged (stateOf d) (c .chunk) (c .text) rest (ap (λ (f : Fed). accepts (f .answer)) (sym kept) ∙ a))
-
--- ---- a run of calls
-
-pub run-judged : (cs : List FeedCall) (d : Desk) → Run d cs → seenOf cs ≡ judgeState (stateOf d) (bytesOf cs)
-unfolding Run seenOf bytesOf cutAll judgeAll
-run-judged [] d r = refl
-run-judged (c ∷ cs) d r =
-    ap (λ (l : List Seen). seenBy (answerSays (c .answer .answer)) (c .after) ++ l) (run-judged cs (c .answer .desk) (r .2)) ∙ call-judged d c (bytesOf cs) (r .0) (r .1)
-
--- ---- an open that succeeds leaves nothing of the past
+-- ---- an open that is not refused leaves nothing of the past
 
 clear-view : (v : View) → isClear v ≡ true → v ≡ held []
 clear-view dropping e = no-answer e refl
 clear-view (held []) e = refl
 clear-view (held (b ∷ bs)) e = no-answer e refl
 
-pub record Fresh (s : State) (awaited : List Kind) : Type 0 where
-  pub nothing-held : viewOf (s .tray) ≡ held []
-  pub answers : s .awaited ≡ awaited
-
-module _ (s : State) (awaited : List Kind) (out : List ℕ) where
-  with-fresh : (command : Reading (List ℕ)) → viewOf (s .tray) ≡ held [] → accepts (openedWith s awaited command out .answer) ≡ true → Fresh (openedWith s awaited command out .state) awaited
-  with-fresh (read c) v a = record { nothing-held = v; answers = refl }
+module _ (s : State) (c : Command) (out : List ℕ) where
+  with-fresh : (w : Reading (List ℕ)) → viewOf (s .wire) ≡ held [] → accepts (openedWith s c w out .answer) ≡ true → viewed (openedWith s c w out .state) ≡ fresh c
+  with-fresh (read w) v a = rw v
   with-fresh (refused k) v a = no-answer a refl
 
-  open-fresh : (command : Reading (List ℕ)) → accepts (opened s awaited command out .answer) ≡ true → Fresh (opened s awaited command out .state) awaited
+  pub open-fresh : (w : Reading (List ℕ)) → accepts (opened s c w out .answer) ≡ true → viewed (opened s c w out .state) ≡ fresh c
   unfolding opened
-  open-fresh command a =
-      ⊎-elim (λ (e : isOpen (s .awaited) ≡ true). no-answer a (rw e))
-      (λ (e : isOpen (s .awaited) ≡ false).
+  open-fresh w a =
+      ⊎-elim (λ (e : isOpen (s .command) ≡ true). no-answer a (rw e))
+      (λ (e : isOpen (s .command) ≡ false).
       ⊎-elim
-      (λ (f : isClear (viewOf (s .tray)) ≡ true). rw (e, f) (with-fresh command (clear-view (viewOf (s .tray)) f) (rw (e, f) at a)))
-      (λ (f : isClear (viewOf (s .tray)) ≡ false). no-answer a (rw (e, f)))
-      (both (isClear (viewOf (s .tray)))))
-      (both (isOpen (s .awaited)))
+      (λ (f : isClear (viewOf (s .wire)) ≡ true). rw (e, f) (with-fresh w (clear-view (viewOf (s .wire)) f) (rw (e, f) at a)))
+      (λ (f : isClear (viewOf (s .wire)) ≡ false). no-answer a (rw (e, f)))
+      (both (isClear (viewOf (s .wire)))))
+      (both (isOpen (s .command)))
 
--- ---- demand 3
+  pub kept-fresh : (w : Reading (List ℕ)) (o : Opened) → o ≡ opened s c w out → accepts (o .answer) ≡ true → viewed (o .state) ≡ fresh c
+  kept-fresh w o e a =
+      subst (λ (p : Opened). viewed (p .state) ≡ fresh c) (sym e) (open-fresh w (ap (λ (p : Opened). accepts (p .answer)) (sym e) ∙ a))
 
-pub session-ruled : {request : Request} (a : Session request) → seenOf (a .feeds) ≡ rulesOf (awaitedBy request) (bytesOf (a .feeds))
-session-ruled {request} a =
-    let is = ap (λ (o : Opened). o .answer) (a .opens) in
-    let made = ap (λ (o : Opened). o .state) (a .opens) in
-    let f : Fresh (stateOf (a .opening .answer .desk)) (awaitedBy request) = rw made (open-fresh (stateOf (a .desk)) (awaitedBy request) (a .opening .out) _ (rw is at (a .accepted))) in
-    run-judged (a .feeds) (a .opening .answer .desk) (a .runs)
-    ∙ ap (λ (v : View). judgeAll (stateOf (a .opening .answer .desk) .awaited) (cutAll v (bytesOf (a .feeds)))) (f .nothing-held)
-    ∙ ap (λ (ks : List Kind). judgeAll ks (cutAll (held []) (bytesOf (a .feeds)))) (f .answers)
+-- ---- demand 3 of every family of calls of which this holds
 
-pub demand3 : Demand3
-demand3 request a b t = (session-ruled a ∙ ap (rulesOf (awaitedBy request)) t ∙ sym (session-ruled b), session-ruled a)
+pub record Sound (Opens : Openings) (Fed : Feeds) : Type 0 where
+  pub opens : (s s′ : State) (c : Command) → Opens s c s′ → viewed s′ ≡ fresh c
+  pub feeds : (s s′ : State) (t : Turn) → Fed s t s′ → feed desk s (t .chunk) ≡ record { taken = t .taken; tell = t .seen; state = s′ }
 
--- ---- a lent desk
+module _ (Opens : Openings) (Fed : Feeds) (sound : Sound Opens Fed) where
+  abbrev chunksOf : List Turn → List (List ℕ)
+  chunksOf ts = map (λ (t : Turn). t .chunk) ts
 
-run-lent : (cs : List LentFeed) (d : Desk) → RunLent d cs → Run d (map asFeed cs)
-unfolding RunLent Run
-run-lent [] d r = tt
-run-lent (c ∷ cs) d r = (r .0, r .1, run-lent cs (c .desk) (r .2))
+  run-told : {s : State} {ts : List Turn} → Run Fed s ts → seenOf ts ≡ told desk s (chunksOf ts)
+  unfolding seenOf told
+  run-told ends = refl
+  run-told {s} (feeds {s′ = s′} {t = t} call more) = rw (sound .feeds s s′ t call) (ap (shown (t .seen)) (run-told more))
 
-pub demand3-lent : Demand3-lent
-demand3-lent request a = (
-  record {
-    desk = a .desk;
-    opening = record { first = a .opening .first; second = a .opening .second; out = a .opening .out; answer = record { desk = a .opening .desk; answer = a .opening .answer }; after = a .opening .after };
-    feeds = map asFeed (a .feeds);
-    opens = a .opens;
-    accepted = a .accepted;
-    runs = run-lent (a .feeds) (a .opening .desk) (a .runs);
-  },
-  refl,
-)
+  run-taken : {s : State} {ts : List Turn} → Run Fed s ts → bytesOf ts ≡ taken desk s (chunksOf ts)
+  unfolding bytesOf taken
+  run-taken ends = refl
+  run-taken {s} (feeds {s′ = s′} {t = t} call more) = rw (sound .feeds s s′ t call) (ap (λ (l : List ℕ). take (t .taken) (t .chunk) ++ l) (run-taken more))
+
+  -- a session tells what the machine tells of its bytes, from a fresh desk
+  pub session-tells : {c : Command} (a : Session Opens Fed c) → seenOf (a .turns) ≡ tells plain (fresh c) (bytesOf (a .turns))
+  session-tells {c} a =
+      run-told (a .runs)
+      ∙ told-tells desk (a .opened) (chunksOf (a .turns))
+      ∙ ap (tells desk (a .opened)) (sym (run-taken (a .runs)))
+      ∙ by-view (a .opened) (bytesOf (a .turns))
+      ∙ ap (λ (s : Plain). tells plain s (bytesOf (a .turns))) (sound .opens (a .before) (a .opened) c (a .opens))
+
+  pub session-ruled : {c : Command} (a : Session Opens Fed c) → seenOf (a .turns) ≡ rulesOf c (bytesOf (a .turns))
+  session-ruled {c} a = session-tells a ∙ plain-ruled c (bytesOf (a .turns))
+
+  pub same-bytes : Demand3 Opens Fed
+  same-bytes c a b t = (session-ruled a ∙ ap (rulesOf c) t ∙ sym (session-ruled b), session-ruled a)
+
+  pub with-slips : Demand3-slipped Opens Fed
+  with-slips c a b k own all =
+      rw (session-tells a ∙ ap (tells plain (fresh c)) own, session-tells b ∙ ap (tells plain (fresh c)) all, sym (slipped-unasked k)) (slips-leave plain May may-back k)
+
+-- ---- the desk's own calls: by value, lent and in parts
+
+desk-opens : (s s′ : State) (c : Command) → DeskOpens s c s′ → viewed s′ ≡ fresh c
+desk-opens s s′ c (By.value d request first second out r out′ kept a) = kept-fresh (stateOf d) c out _ (openedSays r out′) kept a
+desk-opens s s′ c (By.lent d request first second out d′ r out′ kept a) = kept-fresh (stateOf d) c out _ (openedLentSays d′ r out′) kept a
+desk-opens s s′ c (By.parts line len command request first second out r out′ full kept a) =
+    kept-fresh (stateIn line len command) c out _ (openedPartsSays r line len out′) (kept line full) a
+
+desk-feeds : (s s′ : State) (t : Turn) → DeskFeeds s t s′ → feed desk s (t .chunk) ≡ record { taken = t .taken; tell = t .seen; state = s′ }
+desk-feeds s s′ t (By.value d chunk text r text′ kept a) = kept-feed (stateOf d) chunk text (fedSays r text′) kept a
+desk-feeds s s′ t (By.lent d chunk text d′ r text′ kept a) = kept-feed (stateOf d) chunk text (fedLentSays d′ r text′) kept a
+desk-feeds s s′ t (By.parts line len command chunk text r line′ text′ kept a) = kept-feed (stateIn line len command) chunk text (partsSays r line′ text′) kept a
+
+pub desk-sound : Sound DeskOpens DeskFeeds
+desk-sound = record { opens = desk-opens; feeds = desk-feeds }
+
+pub demand3 : Demand3 DeskOpens DeskFeeds
+demand3 = same-bytes DeskOpens DeskFeeds desk-sound
+
+pub demand3-slipped : Demand3-slipped DeskOpens DeskFeeds
+demand3-slipped = with-slips DeskOpens DeskFeeds desk-sound

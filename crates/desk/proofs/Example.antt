@@ -17,24 +17,26 @@ use Rattle.at_command.specs.Csq.{levelOf, csqCodes, csqRest, csqText}
 use Rattle.at_command.specs.Generic.{okText, errorText, promptText, closeText}
 use Rattle.at_command.specs.Gsn.{imeiText}
 use Rattle.at_command.specs.Httptofs.{httptofsText}
-use Rattle.at_command.specs.Response.{lastReadings, laterReadings, readings, responseText}
+use Rattle.at_command.specs.Response.{readings}
 use Rattle.at_command.specs.says.Request.{awaitedBy}
 use Rattle.at_command.specs.declared.request.Request.the-variants.{GetSignalQuality}
 use Rattle.unsolicited.specs.Gnss.{ugnsinfText}
-use Rattle.unsolicited.specs.Registration.{cregText, cgregText, ceregStatus, ceregFields, ceregText, registrationText}
-use Rattle.unsolicited.specs.Urc.{urcText}
-use Rattle.desk.specs.Cut.{bare, cutOne, cutAll}
-use Rattle.desk.specs.Kind.{sortText, lineKind}
-use Rattle.desk.specs.Judge.{Taken, Done, Unsolicited, table, judge}
-use Rattle.desk.specs.Rules.{judgePiece, judgeAll, rulesOf}
+use Rattle.unsolicited.specs.Registration.{cregText, cgregText, ceregStatus, ceregFields, ceregText}
+use Rattle.desk.specs.Cut.{bare, cutOne}
+use Rattle.trial.specs.Said.{urcReadings, allReadings, saidText, lineSaid}
+use Rattle.trial.specs.Sort.{lineSort}
+use Rattle.desk.specs.Machine.{tells, judgeAll}
+use Rattle.desk.specs.Lines.{cutter}
+use Rattle.desk.specs.Judge.{Taken, Done, Unsolicited, awaiting, table, judge}
+use Rattle.desk.specs.Rules.{rulesOf}
 
 abbrev input : List ℕ
 input = bytes "\r\n+CEREG: 5\r\n\r\n+CSQ: 31,99\r\n\r\nOK\r\n"
 
-pub example : rulesOf (awaitedBy GetSignalQuality) input
+pub example : rulesOf (awaiting (awaitedBy GetSignalQuality)) input
     ≡ record { event = Unsolicited; line = bytes "+CEREG: 5" }
     ∷ record { event = Taken; line = bytes "+CSQ: 31,99" }
     ∷ record { event = Done; line = bytes "OK" }
     ∷ []
-unfolding judgeAll judgePiece judge table lineKind sortText checked lineCheck utf8 charSize behind cutAll cutOne bare startsWith same endsWith has only either sized need mapped firstOf responseText readings laterReadings lastReadings okText errorText promptText closeText iccidText cardText csqText csqRest csqCodes levelOf cpsiText copsText cntpText httptofsText imeiText cmgfText cmgrText urcText ugnsinfText registrationText cregText cgregText ceregText ceregFields ceregStatus unsigned signed magnitude digitsOf digitValue valueOf
+unfolding judgeAll judge table lineSort lineSaid saidText allReadings urcReadings checked lineCheck utf8 charSize behind tells cutter cutOne bare startsWith same endsWith has only either sized need mapped firstOf readings okText errorText promptText closeText iccidText cardText csqText csqRest csqCodes levelOf cpsiText copsText cntpText httptofsText imeiText cmgfText cmgrText ugnsinfText cregText cgregText ceregText ceregFields ceregStatus unsigned signed magnitude digitsOf digitValue valueOf
 example = refl

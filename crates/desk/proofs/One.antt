@@ -2,13 +2,17 @@
 use Prim.Native.Nat.{ℕ}
 use mathlib.Core.Path.{_≡_, refl, sym, ap, _∙_}
 use mathlib.Core.List.{List, [], _∷_}
+use lib.ListN.{replicate}
 use Rattle.text.specs.Reading.{Reading, read, refused}
 use Rattle.at_command.specs.Kind.{Kind}
+use Rattle.at_command.specs.says.Request.{encodedSays}
+use Rattle.at_command.specs.declared.request.Request.{Request}
 use Rattle.at_command.specs.declared.request.Encoded.{Encoded}
 use Rattle.at_command.proofs.OneRequest.{encoded, encoded-back, kind, kind-back}
 use Rattle.desk.specs.Judge as J
 use Rattle.desk.specs.Desk.{State, Heard, quiet, event, Fed, Opened}
-use Rattle.desk.specs.Says.{awaitedOf, eventSays, answerSays, stateOf, fedSays, partsSays, openedSays, openedPartsSays, fedLentSays, openedLentSays}
+use Rattle.desk.specs.Says.{commandSays, eventSays, answerSays, stateOf}
+use Rattle.desk.specs.Keeps.{NewKeeps, ResetKeeps, FeedKeeps, FeedLentKeeps, FeedOnKeeps, OpenKeeps, OpenLentKeeps, OpenOnKeeps}
 use Rattle.desk.specs.declared.Event.{Event}
 use Rattle.desk.specs.declared.Event.the-variants as E
 use Rattle.desk.specs.declared.Desk.{Desk}
@@ -24,18 +28,18 @@ use Rattle.desk.specs.declared.open.OpenedParts.{OpenedParts}
 -- ---- read back
 
 -- a command awaits at most two answers
-commandIn : List Kind → Command
+unfoldable pub commandIn : List Kind → Command
 commandIn [] = Idle
 commandIn (a ∷ []) = One (kind a)
 commandIn (a ∷ b ∷ ks) = Two (kind a) (kind b)
 
-command-back : (c : Command) → commandIn (awaitedOf c) ≡ c
+command-back : (c : Command) → commandIn (commandSays c .awaited) ≡ c
 unfolding commandIn
 command-back Idle = refl
 command-back (One a) = ap One (kind-back a)
 command-back (Two a b) = rw (kind-back a, kind-back b)
 
-eventIn : J.Event → Event
+unfoldable pub eventIn : J.Event → Event
 eventIn J.Overlong = E.Overlong
 eventIn (J.Stray n) = E.Stray n
 eventIn J.Failed = E.Failed
@@ -54,7 +58,7 @@ event-back E.Done = refl
 event-back E.Short = refl
 event-back E.Unsolicited = refl
 
-answerIn : Reading Heard → FedAnswer
+unfoldable pub answerIn : Reading Heard → FedAnswer
 answerIn (refused k) = F.Refused k
 answerIn (read (quiet n)) = F.Quiet n
 answerIn (read (event e n size)) = F.Heard (eventIn e) n size
@@ -65,8 +69,8 @@ answer-back (F.Refused k) = refl
 answer-back (F.Quiet n) = refl
 answer-back (F.Heard e n size) = ap (λ (x : Event). F.Heard x n size) (event-back e)
 
-deskIn : State → Desk
-deskIn s = record { cutter = record { line = s .tray .bytes; len = s .tray .len }; command = commandIn (s .awaited) }
+unfoldable pub deskIn : State → Desk
+deskIn s = record { cutter = record { line = s .wire .bytes; len = s .wire .len }; command = commandIn (s .command .awaited) }
 
 desk-back : (d : Desk) → deskIn (stateOf d) ≡ d
 unfolding deskIn
@@ -74,59 +78,79 @@ desk-back d = ap (λ (c : Command). record { cutter = d .cutter; command = c }) 
 
 -- ---- one answer
 
--- at the state that the contract names: the desk returned or, of `reset_lent`, the one behind the reference
--- one answer: Desk::new, Desk::reset, Desk::reset_lent
-pub one-desk : {s : State} (r q : Desk) → stateOf r ≡ s → stateOf q ≡ s → r ≡ q
-one-desk r q e f = sym (desk-back r) ∙ ap deskIn (e ∙ sym f) ∙ desk-back q
+pub same-desk : (d d′ : Desk) → stateOf d ≡ stateOf d′ → d ≡ d′
+same-desk d d′ e = sym (desk-back d) ∙ ap deskIn e ∙ desk-back d′
+
+pub same-command : (c c′ : Command) → commandSays c ≡ commandSays c′ → c ≡ c′
+same-command c c′ e = sym (command-back c) ∙ ap (λ (x : J.Command). commandIn (x .awaited)) e ∙ command-back c′
+
+same-answer : (a b : FedAnswer) → answerSays a ≡ answerSays b → a ≡ b
+same-answer a b e = sym (answer-back a) ∙ ap answerIn e ∙ answer-back b
+
+same-encoded : (a b : Encoded) → encodedSays a ≡ encodedSays b → a ≡ b
+same-encoded a b e = sym (encoded-back a) ∙ ap encoded e ∙ encoded-back b
+
+-- one answer: Desk::new
+pub one-new : (r q : Desk) → NewKeeps r → NewKeeps q → r ≡ q
+one-new r q e f = same-desk r q (e ∙ sym f)
+
+-- of `reset_lent` the desk behind the reference
+-- one answer: Desk::reset, Desk::reset_lent
+pub one-reset : (d r q : Desk) → ResetKeeps d r → ResetKeeps d q → r ≡ q
+one-reset d r q e f = same-desk r q (e ∙ sym f)
 
 -- with the output buffer
 -- one answer: Desk::open
-pub one-open : {x : Opened} (r q : OpenedCode) (out out′ : List ℕ) → openedSays r out ≡ x → openedSays q out′ ≡ x → (r ≡ q) × (out ≡ out′)
-one-open r q out out′ e f =
+pub one-open : (d : Desk) (request : Request) (first second out : List ℕ) (r q : OpenedCode) (out′ out″ : List ℕ) → OpenKeeps d request first second out r out′
+    → OpenKeeps d request first second out q out″ → (r ≡ q) × (out′ ≡ out″)
+one-open d request first second out r q out′ out″ e f =
     let g = e ∙ sym f in
-    let desk : r .desk ≡ q .desk = one-desk (r .desk) (q .desk) (ap (λ (y : Opened). y .state) g) refl in
-    let answer : r .answer ≡ q .answer = sym (encoded-back (r .answer)) ∙ ap (λ (y : Opened). encoded (y .answer)) g ∙ encoded-back (q .answer) in
+    let desk = same-desk (r .desk) (q .desk) (ap (λ (y : Opened). y .state) g) in
+    let answer = same-encoded (r .answer) (q .answer) (ap (λ (y : Opened). y .answer) g) in
     (rw (desk, answer), ap (λ (y : Opened). y .out) g)
 
--- with the output buffer, at any 257 bytes
--- one answer: open_on
-pub one-open-on : {x : Opened} (bytes : List ℕ) (len : ℕ) (r q : OpenedParts) (out out′ : List ℕ) → openedPartsSays r bytes len out ≡ x → openedPartsSays q bytes len out′ ≡ x
-    → (r ≡ q) × (out ≡ out′)
-one-open-on bytes len r q out out′ e f =
+-- with the desk behind the reference and the output buffer
+-- one answer: Desk::open_lent
+pub one-open-lent : (d : Desk) (request : Request) (first second out : List ℕ) (d′ d″ : Desk) (r q : Encoded) (out′ out″ : List ℕ)
+    → OpenLentKeeps d request first second out d′ r out′ → OpenLentKeeps d request first second out d″ q out″ → (d′ ≡ d″) × (r ≡ q) × (out′ ≡ out″)
+one-open-lent d request first second out d′ d″ r q out′ out″ e f =
     let g = e ∙ sym f in
-    let command : r .command ≡ q .command = sym (command-back (r .command)) ∙ ap (λ (y : Opened). commandIn (y .state .awaited)) g ∙ command-back (q .command) in
-    let answer : r .answer ≡ q .answer = sym (encoded-back (r .answer)) ∙ ap (λ (y : Opened). encoded (y .answer)) g ∙ encoded-back (q .answer) in
-    (rw (command, answer), ap (λ (y : Opened). y .out) g)
+    (same-desk d′ d″ (ap (λ (y : Opened). y .state) g), same-encoded r q (ap (λ (y : Opened). y .answer) g), ap (λ (y : Opened). y .out) g)
+
+-- with the output buffer
+-- one answer: open_on
+pub one-open-on : (len : ℕ) (command : Command) (request : Request) (first second out : List ℕ) (r q : OpenedParts) (out′ out″ : List ℕ)
+    → OpenOnKeeps len command request first second out r out′ → OpenOnKeeps len command request first second out q out″ → (r ≡ q) × (out′ ≡ out″)
+one-open-on len command request first second out r q out′ out″ e f =
+    let g = e (replicate 257 0) refl ∙ sym (f (replicate 257 0) refl) in
+    let after = same-command (r .command) (q .command) (ap (λ (y : Opened). y .state .command) g) in
+    let answer = same-encoded (r .answer) (q .answer) (ap (λ (y : Opened). y .answer) g) in
+    (rw (after, answer), ap (λ (y : Opened). y .out) g)
 
 -- with the text buffer
 -- one answer: Desk::feed
-pub one-feed : {x : Fed} (r q : FedCode) (text text′ : List ℕ) → fedSays r text ≡ x → fedSays q text′ ≡ x → (r ≡ q) × (text ≡ text′)
-one-feed r q text text′ e f =
+pub one-feed : (d : Desk) (chunk text : List ℕ) (r q : FedCode) (text′ text″ : List ℕ) → FeedKeeps d chunk text r text′ → FeedKeeps d chunk text q text″ → (r ≡ q) × (text′ ≡ text″)
+one-feed d chunk text r q text′ text″ e f =
     let g = e ∙ sym f in
-    let desk : r .desk ≡ q .desk = one-desk (r .desk) (q .desk) (ap (λ (y : Fed). y .state) g) refl in
-    let answer : r .answer ≡ q .answer = sym (answer-back (r .answer)) ∙ ap (λ (y : Fed). answerIn (y .answer)) g ∙ answer-back (q .answer) in
+    let desk = same-desk (r .desk) (q .desk) (ap (λ (y : Fed). y .state) g) in
+    let answer = same-answer (r .answer) (q .answer) (ap (λ (y : Fed). y .answer) g) in
     (rw (desk, answer), ap (λ (y : Fed). y .text) g)
+
+-- with the desk behind the reference and the text buffer
+-- one answer: Desk::feed_lent
+pub one-feed-lent : (d : Desk) (chunk text : List ℕ) (d′ d″ : Desk) (r q : FedAnswer) (text′ text″ : List ℕ) → FeedLentKeeps d chunk text d′ r text′
+    → FeedLentKeeps d chunk text d″ q text″ → (d′ ≡ d″) × (r ≡ q) × (text′ ≡ text″)
+one-feed-lent d chunk text d′ d″ r q text′ text″ e f =
+    let g = e ∙ sym f in
+    (same-desk d′ d″ (ap (λ (y : Fed). y .state) g), same-answer r q (ap (λ (y : Fed). y .answer) g), ap (λ (y : Fed). y .text) g)
 
 -- with the lent array and the text buffer
 -- one answer: feed_on
-pub one-feed-on : {x : Fed} (r q : FedParts) (bytes bytes′ text text′ : List ℕ) → partsSays r bytes text ≡ x → partsSays q bytes′ text′ ≡ x
-    → (r ≡ q) × (bytes ≡ bytes′) × (text ≡ text′)
-one-feed-on r q bytes bytes′ text text′ e f =
+pub one-feed-on : (line : List ℕ) (len : ℕ) (command : Command) (chunk text : List ℕ) (r q : FedParts) (line′ line″ text′ text″ : List ℕ)
+    → FeedOnKeeps line len command chunk text r line′ text′ → FeedOnKeeps line len command chunk text q line″ text″ → (r ≡ q) × (line′ ≡ line″) × (text′ ≡ text″)
+one-feed-on line len command chunk text r q line′ line″ text′ text″ e f =
     let g = e ∙ sym f in
-    let len : r .len ≡ q .len = ap (λ (y : Fed). y .state .tray .len) g in
-    let command : r .command ≡ q .command = sym (command-back (r .command)) ∙ ap (λ (y : Fed). commandIn (y .state .awaited)) g ∙ command-back (q .command) in
-    let answer : r .answer ≡ q .answer = sym (answer-back (r .answer)) ∙ ap (λ (y : Fed). answerIn (y .answer)) g ∙ answer-back (q .answer) in
-    (rw (len, command, answer), ap (λ (y : Fed). y .state .tray .bytes) g, ap (λ (y : Fed). y .text) g)
-
--- with the desk behind the reference and the lent buffer
--- one answer: Desk::open_lent
-pub one-open-lent : {x : Opened} (d d′ : Desk) (r q : Encoded) (out out′ : List ℕ) → openedLentSays d r out ≡ x → openedLentSays d′ q out′ ≡ x → (d ≡ d′) × (r ≡ q) × (out ≡ out′)
-one-open-lent d d′ r q out out′ e f =
-    let one = one-open (record { desk = d; answer = r }) (record { desk = d′; answer = q }) out out′ e f in
-    (ap (λ (y : OpenedCode). y .desk) (one .0), ap (λ (y : OpenedCode). y .answer) (one .0), one .1)
-
--- one answer: Desk::feed_lent
-pub one-feed-lent : {x : Fed} (d d′ : Desk) (r q : FedAnswer) (text text′ : List ℕ) → fedLentSays d r text ≡ x → fedLentSays d′ q text′ ≡ x → (d ≡ d′) × (r ≡ q) × (text ≡ text′)
-one-feed-lent d d′ r q text text′ e f =
-    let one = one-feed (record { desk = d; answer = r }) (record { desk = d′; answer = q }) text text′ e f in
-    (ap (λ (y : FedCode). y .desk) (one .0), ap (λ (y : FedCode). y .answer) (one .0), one .1)
+    let size : r .len ≡ q .len = ap (λ (y : Fed). y .state .wire .len) g in
+    let after = same-command (r .command) (q .command) (ap (λ (y : Fed). y .state .command) g) in
+    let answer = same-answer (r .answer) (q .answer) (ap (λ (y : Fed). y .answer) g) in
+    (rw (size, after, answer), ap (λ (y : Fed). y .state .wire .bytes) g, ap (λ (y : Fed). y .text) g)

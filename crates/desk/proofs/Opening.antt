@@ -10,12 +10,11 @@ use lib.Seq.{length-take-le}
 use lib.Dec.{ltb}
 use borrow.Author.Tests.{ltb-false}
 use Rattle.text.specs.Reading.{Reading, read, refused, mapped}
-use Rattle.at_command.specs.Kind.{Kind}
-use Rattle.at_command.specs.Request.{written}
+use Rattle.at_command.specs.Request.{Asked, getSignalQuality, showIccid, getImei, getOperatorInfo, setManualOperator, setAutomaticOperator, getSystemInfo, synchronizeNetworkTime, execute, downloadToFileSystem, getSmsMessageFormat, setSmsMessageFormat, readSms, answersTo, written}
 use Rattle.desk.specs.Cut.{held}
-use Rattle.desk.specs.Judge.{isOpen}
+use Rattle.desk.specs.Judge.{Command, isOpen}
 use Rattle.desk.specs.Desk.{Tray, State, viewOf, isClear, openedWith, opened}
-use Rattle.desk.proofs.Basics.{both, never}
+use Rattle.text.proofs.Tests.{both, never}
 
 -- ---- whether the desk is clear
 
@@ -34,29 +33,46 @@ clear-not t full h =
 
 -- ---- the refusals, and the answer
 
-module _ (s : State) (awaited : List Kind) where
-  pub open-busy : (command : Reading (List ℕ)) (out : List ℕ) → isOpen (s .awaited) ≡ true → record { state = s; answer = refused 8; out = out } ≡ opened s awaited command out
+module _ (s : State) (c : Command) where
+  pub open-busy : (command : Reading (List ℕ)) (out : List ℕ) → isOpen (s .command) ≡ true → record { state = s; answer = refused 8; out = out } ≡ opened s c command out
   unfolding opened
   open-busy command out e = rw e
 
-  module _ (idle : isOpen (s .awaited) ≡ false) where
-    pub open-held : (command : Reading (List ℕ)) (out : List ℕ) → isClear (viewOf (s .tray)) ≡ false → record { state = s; answer = refused 9; out = out } ≡ opened s awaited command out
+  module _ (idle : isOpen (s .command) ≡ false) where
+    pub open-held : (command : Reading (List ℕ)) (out : List ℕ) → isClear (viewOf (s .wire)) ≡ false → record { state = s; answer = refused 9; out = out } ≡ opened s c command out
     unfolding opened
     open-held command out e = rw (idle, e)
 
-    module _ (clear : isClear (viewOf (s .tray)) ≡ true) where
-      open-on : (command : Reading (List ℕ)) (out : List ℕ) → openedWith s awaited command out ≡ opened s awaited command out
+    module _ (clear : isClear (viewOf (s .wire)) ≡ true) where
+      open-on : (command : Reading (List ℕ)) (out : List ℕ) → openedWith s c command out ≡ opened s c command out
       unfolding opened
       open-on command out = rw (idle, clear)
 
       pub open-refused : (command : Reading (List ℕ)) (out : List ℕ) {k : ℕ} {after : List ℕ} → refused k ≡ mapped length command → after ≡ written command out
-          → record { state = s; answer = refused k; out = after } ≡ opened s awaited command out
+          → record { state = s; answer = refused k; out = after } ≡ opened s c command out
       unfolding mapped
-      open-refused (read c) out e f = never (cc)
+      open-refused (read w) out e f = never (cc)
       open-refused (refused k) out e f = rw (e, f) (open-on (refused k) out)
 
       pub open-written : (command : Reading (List ℕ)) (out : List ℕ) {n : ℕ} {after : List ℕ} → read n ≡ mapped length command → after ≡ written command out
-          → record { state = record { tray = s .tray; awaited = awaited }; answer = read n; out = after } ≡ opened s awaited command out
+          → record { state = record { wire = s .wire; command = c }; answer = read n; out = after } ≡ opened s c command out
       unfolding mapped
-      open-written (read c) out e f = rw (e, f) (open-on (read c) out)
+      open-written (read w) out e f = rw (e, f) (open-on (read w) out)
       open-written (refused k) out e f = never (cc)
+
+-- ---- a request awaits at most two answers
+
+pub answers-few : (a : Asked) → length (answersTo a) ≤ 2
+answers-few getSignalQuality = omega arith
+answers-few showIccid = omega arith
+answers-few getImei = omega arith
+answers-few getOperatorInfo = omega arith
+answers-few (setManualOperator plmn) = omega arith
+answers-few setAutomaticOperator = omega arith
+answers-few getSystemInfo = omega arith
+answers-few (synchronizeNetworkTime server timezone cid) = omega arith
+answers-few execute = omega arith
+answers-few (downloadToFileSystem url path) = omega arith
+answers-few getSmsMessageFormat = omega arith
+answers-few (setSmsMessageFormat format) = omega arith
+answers-few (readSms index) = omega arith

@@ -4,53 +4,62 @@ use mathlib.Core.Path.{_≡_, refl, _∙_}
 use mathlib.Core.Bool.{true, false}
 use mathlib.Core.Logic.{⊎-elim}
 use mathlib.Core.List.{List, [], _∷_}
+use mathlib.Core.Option.{none}
 use native.Mathlib.Omega.{arith}
 use native.Mathlib.Numerals.{add-one}
-use lib.ListN.{length, take, drop, getD, set, length-set, drop-of-length-le}
+use lib.ListN.{length, drop, getD, set, length-set, drop-of-length-le}
 use lib.Seq.{drop-cons}
 use lib.Dec.{ltb}
 use borrow.Author.Tests.{ltb-true, ltb-false}
-use Rattle.desk.specs.Cut.{nothing, cutOne}
-use Rattle.desk.specs.Desk.{Tray, viewOf, layOne, layAll, stops, countOf, pieceIn}
-use Rattle.desk.specs.Search.{trayOf, Pushed, pushOne, foundAfter, Filled, Clear, Putting}
-use Rattle.desk.proofs.Basics.{both}
-use Rattle.desk.proofs.Cutting.{view-lay, past-below, prompt-far, push-more}
+use Rattle.desk.specs.Cut.{Piece, nothing, blank, overlong, line}
+use Rattle.desk.specs.Machine.{Stop, onward, feed}
+use Rattle.desk.specs.Lines.{Line, lineOf}
+use Rattle.desk.specs.Desk.{Tray, layOne, buffered}
+use Rattle.desk.specs.Search.{trayOf, Pushed, pushOne, stops, foundAfter, Filled, Clear, Putting}
+use Rattle.text.proofs.Tests.{both, never}
+use Rattle.desk.proofs.Cutting.{past-below, prompt-far, push-more}
 
 -- ---- one byte more
 
-found-none : (n : ℕ) (t : Tray) → foundAfter n t [] ≡ record { taken = n; tray = t; piece = nothing }
-unfolding countOf pieceIn layAll
+found-none : (n : ℕ) (t : Tray) → foundAfter n t [] ≡ record { taken = n; tell = none; state = t }
+unfolding feed
 found-none n t = let e : n + 0 ≡ n = omega arith in rw e
 
+onward-stop : (p : Piece) (t : Tray) (f : Stop Tray Line) → stops p ≡ true → onward (lineOf p) t f ≡ record { taken = 1; tell = lineOf p; state = t }
+onward-stop nothing t f e = never (cc)
+onward-stop blank t f e = never (cc)
+onward-stop overlong t f e = refl
+onward-stop (line l) t f e = refl
+
+onward-on : (p : Piece) (t : Tray) (f : Stop Tray Line) → stops p ≡ false → onward (lineOf p) t f ≡ record { taken = suc (f .taken); tell = f .tell; state = f .state }
+onward-on nothing t f e = refl
+onward-on blank t f e = refl
+onward-on overlong t f e = never (cc)
+onward-on (line l) t f e = never (cc)
+
 module _ (n : ℕ) (t : Tray) (b : ℕ) (bs : List ℕ) where
-  found-stop : stops (pushOne t b .piece) ≡ true → foundAfter n t (b ∷ bs) ≡ record { taken = n + 1; tray = layOne t b; piece = pushOne t b .piece }
-  unfolding countOf pieceIn layAll
-  found-stop e = rw e
+  found-stop : stops (pushOne t b .piece) ≡ true → foundAfter n t (b ∷ bs) ≡ record { taken = n + 1; tell = lineOf (pushOne t b .piece); state = layOne t b }
+  unfolding feed buffered
+  found-stop e = rw (onward-stop (pushOne t b .piece) (layOne t b) (feed buffered (layOne t b) bs) e)
 
   found-on : stops (pushOne t b .piece) ≡ false → foundAfter n t (b ∷ bs) ≡ foundAfter (n + 1) (layOne t b) bs
-  unfolding countOf pieceIn layAll
+  unfolding feed buffered
   found-on e =
-      let v = view-lay t b in
-      let k : n + suc (countOf (cutOne (viewOf t) b .view) bs) ≡ n + 1 + countOf (cutOne (viewOf t) b .view) bs = omega arith in
-      rw (e, k, v)
+      let k : n + suc (feed buffered (layOne t b) bs .taken) ≡ n + 1 + feed buffered (layOne t b) bs .taken = omega arith in
+      rw (onward-on (pushOne t b .piece) (layOne t b) (feed buffered (layOne t b) bs) e, k)
 
 -- ---- a turn of the search, at the byte i of the chunk
 
 module _ (chunk : List ℕ) (i : ℕ) (t : Tray) where
-  pub search-end : length chunk ≤ i → foundAfter i t (drop i chunk) ≡ record { taken = i; tray = t; piece = nothing }
+  pub search-end : length chunk ≤ i → foundAfter i t (drop i chunk) ≡ record { taken = i; tell = none; state = t }
   search-end h = rw (drop-of-length-le chunk h) (found-none i t)
 
   module _ {p : Pushed} (more : i < length chunk) (e : p ≡ pushOne t (getD chunk i 0)) where
-    pub search-stop : stops (p .piece) ≡ true → foundAfter i t (drop i chunk) ≡ record { taken = i + 1; tray = p .tray; piece = p .piece }
+    pub search-stop : stops (p .piece) ≡ true → foundAfter i t (drop i chunk) ≡ record { taken = i + 1; tell = lineOf (p .piece); state = p .tray }
     search-stop g = rw (drop-cons chunk i 0 more, e) (found-stop i t (getD chunk i 0) (drop (suc i) chunk) (rw e at g))
 
     pub search-on : stops (p .piece) ≡ false → foundAfter i t (drop i chunk) ≡ foundAfter (i + 1) (p .tray) (drop (i + 1) chunk)
     search-on g = rw (drop-cons chunk i 0 more, e, add-one i) (rw (add-one i) at (found-on i t (getD chunk i 0) (drop (suc i) chunk) (rw e at g)))
-
--- the search from the chunk's start
-pub search-whole : (t : Tray) (chunk : List ℕ)
-    → foundAfter 0 t chunk ≡ record { taken = countOf (viewOf t) chunk; tray = layAll t (take (countOf (viewOf t) chunk) chunk); piece = pieceIn (viewOf t) chunk }
-search-whole t chunk = let e : 0 + countOf (viewOf t) chunk ≡ countOf (viewOf t) chunk = omega arith in rw e
 
 -- ---- bytes laid at once
 

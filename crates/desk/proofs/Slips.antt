@@ -1,77 +1,79 @@
--- Demand 3, with lines slipped in: a complete unsolicited line shows one event and leaves the command as it was.
+-- Bytes slipped in: what they tell, struck out, leaves what the machine tells without them; and complete unsolicited lines may be slipped into a desk's bytes.
 use Prim.Native.Nat.{ℕ}
-use mathlib.Core.Path.{_≡_, refl, ap, _∙_}
-use mathlib.Core.Bool.{Bool, true}
+use mathlib.Core.Path.{_≡_, refl, sym, ap, _∙_}
+use mathlib.Core.Bool.{true}
 use mathlib.Core.List.{List, [], _∷_, _++_}
 use mathlib.Core.Option.{Option, none, some}
 use lib.Dec.{eqb}
 use Rattle.text.specs.Reading.{read}
-use Rattle.at_command.specs.Kind.{Kind}
-use Rattle.at_command.specs.says.Request.{awaitedBy}
-use Rattle.desk.specs.Cut.{View, dropping, held, Piece, nothing, blank, overlong, line, cutOne, cutAll}
-use Rattle.desk.specs.Kind.{unsolicited, lineKind}
-use Rattle.desk.specs.Judge.{Unsolicited, stays, table, judge}
-use Rattle.desk.specs.Rules.{Seen, judgePiece, shown, judgeAll, rulesOf}
-use Rattle.desk.specs.Script.{lines, Slip, Script, end, byte, slip, ownBytes, allBytes, slipped, Leaves, keep, strike}
-use Rattle.desk.specs.Script as S
-use Rattle.desk.specs.Demand.{Demand3-slipped}
-use Rattle.desk.proofs.Basics.{never}
-use Rattle.desk.proofs.Sorting.{table-unsolicited}
-use Rattle.desk.proofs.Demand.{cut-join, session-ruled}
+use Rattle.desk.specs.Cut.{View, dropping, held, cutOne}
+use Rattle.trial.specs.Sort.{unsolicited, lineSort}
+use Rattle.desk.specs.Machine.{Machine, shown, tells, after, judged, judgeAll, commandAfter}
+use Rattle.desk.specs.Lines.{Line, line, cutter, linesOf}
+use Rattle.desk.specs.Judge.{Unsolicited, Seen, Command, Ruling, stays, table, judge}
+use Rattle.desk.specs.Rules.{Plain, plain, fresh}
+use Rattle.desk.specs.Slips.{Leaves, keep, strike, Script, end, byte, slip, ownBytes, allBytes, slipped, Back}
+use Rattle.desk.specs.Slips as Struck
+use Rattle.desk.specs.Demand.{May, unasked, unaskedIn}
+use Rattle.desk.proofs.Machine.{tells-join, judged-tells, judged-after}
+use Rattle.desk.proofs.Judging.{table-unsolicited}
 
--- pieces with no line in them show nothing
-none-judged : (awaited : List Kind) (ps rest : List Piece) → lines ps ≡ [] → judgeAll awaited (ps ++ rest) ≡ judgeAll awaited rest
-unfolding judgeAll judgePiece
-none-judged awaited [] rest e = refl
-none-judged awaited (nothing ∷ ps) rest e = none-judged awaited ps rest e
-none-judged awaited (blank ∷ ps) rest e = none-judged awaited ps rest e
-none-judged awaited (overlong ∷ ps) rest e = never (cc)
-none-judged awaited (line l ∷ ps) rest e = never (cc)
+-- ---- the one law of slipped bytes, of any machine
 
-module _ (l : List ℕ) (kind : lineKind l ≡ read unsolicited) where
-  line-judged : (awaited : List Kind) → judge awaited l ≡ stays awaited Unsolicited
-  unfolding judge
-  line-judged awaited = ap (table awaited) kind ∙ table-unsolicited awaited
+shown-kept : {T : Type 0} (o : Option T) {all struck own : List T} → Leaves all struck own → Leaves (shown o all) struck (shown o own)
+shown-kept none r = r
+shown-kept (some x) r = keep r
 
-  -- pieces with this one line in them show it
-  one-judged : (awaited : List Kind) (ps rest : List Piece) → lines ps ≡ line l ∷ [] → judgeAll awaited (ps ++ rest) ≡ record { event = Unsolicited; line = l } ∷ judgeAll awaited rest
-  unfolding judgeAll judgePiece
-  one-judged awaited [] rest e = never (cc)
-  one-judged awaited (nothing ∷ ps) rest e = one-judged awaited ps rest e
-  one-judged awaited (blank ∷ ps) rest e = one-judged awaited ps rest e
-  one-judged awaited (overlong ∷ ps) rest e = never (cc)
-  one-judged awaited (line m ∷ ps) rest e =
-      let same : m ≡ l = cc in
-      let no-more : lines ps ≡ [] = cc in
-      let ruled = line-judged awaited in
-      rw (same, ruled) (ap (λ (s : List Seen). record { event = Unsolicited; line = l } ∷ s) (none-judged awaited ps rest no-more))
+all-struck : {T : Type 0} (l : List T) {all struck own : List T} → Leaves all struck own → Leaves (l ++ all) (l ++ struck) own
+all-struck [] r = r
+all-struck (x ∷ l) r = strike (all-struck l r)
 
-slip-judged : (awaited : List Kind) (bytes l rest : List ℕ) → Slip bytes l
-    → judgeAll awaited (cutAll (held []) (bytes ++ rest)) ≡ record { event = Unsolicited; line = l } ∷ judgeAll awaited (cutAll (held []) rest)
-slip-judged awaited bytes l rest s =
-    ap (judgeAll awaited) (cut-join (held []) bytes rest)
-    ∙ one-judged l (s .kind) awaited (cutAll (held []) bytes) (cutAll _ rest) (s .complete .one)
-    ∙ ap (λ (v : View). record { event = Unsolicited; line = l } ∷ judgeAll awaited (cutAll v rest)) (s .complete .whole)
+module _ {S T : Type 0} (m : Machine S T) (May : S → List ℕ → Type 0) (back : Back m May) where
+  pub slips-leave : {s : S} (k : Script m May s) → Leaves (tells m s (allBytes m May k)) (slipped m May k) (tells m s (ownBytes m May k))
+  unfolding tells allBytes ownBytes slipped
+  slips-leave end = Struck.none
+  slips-leave {s} (byte b k) = shown-kept (m s b .tell) (slips-leave k)
+  slips-leave {s} (slip w u k) = rw (tells-join m s w (allBytes m May k), back s w u) (all-struck (tells m s w) (slips-leave k))
+
+-- ---- where a line may be slipped in: straight after the open, and after an LF
+
+pub after-open : (c : Command) → fresh c .wire ≡ held []
+after-open c = refl
 
 pub lf-view : (v : View) (b : ℕ) → eqb b 10 ≡ true → cutOne v b .view ≡ held []
 unfolding cutOne
 lf-view dropping b e = rw e
 lf-view (held h) b e = rw e
 
-shown-both : (o : Option Seen) {all struck own : List Seen} → Leaves all struck own → Leaves (shown o all) struck (shown o own)
-shown-both none r = r
-shown-both (some x) r = keep r
+pub after-lf : (s : Plain) (b : ℕ) → eqb b 10 ≡ true → plain s b .state .wire ≡ held []
+unfolding judged cutter
+after-lf s b e = lf-view (s .wire) b e
 
-pub script-leaves : {s : Bool} (k : Script s) (awaited : List Kind) (v : View) → (s ≡ true → v ≡ held [])
-    → Leaves (judgeAll awaited (cutAll v (allBytes k))) (slipped k) (judgeAll awaited (cutAll v (ownBytes k)))
-unfolding allBytes ownBytes slipped cutAll judgeAll
-script-leaves end awaited v f = S.none
-script-leaves (byte b k) awaited v f =
-    shown-both (judgePiece awaited (cutOne v b .piece) .seen) (script-leaves k (judgePiece awaited (cutOne v b .piece) .awaited) (cutOne v b .view) (lf-view v b))
-script-leaves (slip bytes l u k) awaited v f =
-    rw (f refl, slip-judged awaited bytes l (allBytes k) u) (strike (script-leaves k awaited (held []) (λ _. refl)))
+-- ---- a complete unsolicited line shows one event, and leaves the desk as it was
 
-pub demand3-slipped : Demand3-slipped
-demand3-slipped request a b k own all =
-    rw (session-ruled a ∙ ap (rulesOf (awaitedBy request)) own, session-ruled b ∙ ap (rulesOf (awaitedBy request)) all)
-    (script-leaves k (awaitedBy request) (held []) (λ _. refl))
+line-judged : (c : Command) (l : List ℕ) → lineSort l ≡ read unsolicited → table c (lineSort l) ≡ stays c Unsolicited
+line-judged c l sort = ap (table c) sort ∙ table-unsolicited c
+
+command-kept : (c : Command) (ls : List Line) (l : List ℕ) → ls ≡ line l ∷ [] → lineSort l ≡ read unsolicited → commandAfter (judge lineSort) c ls ≡ c
+unfolding commandAfter judge
+command-kept c ls l is sort = ap (commandAfter (judge lineSort) c) is ∙ ap (λ (r : Ruling). r .command) (line-judged c l sort)
+
+pub may-back : Back plain May
+may-back s w (unasked l start whole is sort) =
+    judged-after (judge lineSort) cutter s w
+    ∙ ap (λ (v : View). record { wire = after cutter v w; command = commandAfter (judge lineSort) (s .command) (tells cutter v w) }) start
+    ∙ rw (whole, command-kept (s .command) (linesOf w) l is sort, sym start)
+
+may-tells : (s : Plain) (w l : List ℕ) → s .wire ≡ held [] → linesOf w ≡ line l ∷ [] → lineSort l ≡ read unsolicited → tells plain s w ≡ record { event = Unsolicited; line = l } ∷ []
+unfolding judgeAll judge
+may-tells s w l start is sort =
+    judged-tells (judge lineSort) cutter s w
+    ∙ ap (λ (v : View). judgeAll (judge lineSort) (s .command) (tells cutter v w)) start
+    ∙ ap (judgeAll (judge lineSort) (s .command)) is
+    ∙ rw (line-judged (s .command) l sort)
+
+pub slipped-unasked : {s : Plain} (k : Script plain May s) → slipped plain May k ≡ unaskedIn k
+unfolding slipped unaskedIn
+slipped-unasked end = refl
+slipped-unasked (byte b k) = slipped-unasked k
+slipped-unasked {s} (slip w (unasked l start whole is sort) k) = rw (may-tells s w l start is sort) (ap (λ (es : List Seen). record { event = Unsolicited; line = l } ∷ es) (slipped-unasked k))

@@ -49,12 +49,3 @@ cutOne (held h) b =
     (cond (long (bare (h ++ b ∷ []))) (record { view = dropping; piece = nothing })
     (cond (isPrompt (h ++ b ∷ [])) (record { view = held []; piece = line (h ++ b ∷ []) })
     (record { view = held (h ++ b ∷ []); piece = nothing })))
-
--- the pieces of bytes, one for each byte, and what is held after them
-unfoldable pub cutAll : View → List ℕ → List Piece
-cutAll v [] = []
-cutAll v (b ∷ bs) = cutOne v b .piece ∷ cutAll (cutOne v b .view) bs
-
-unfoldable pub viewAfter : View → List ℕ → View
-viewAfter v [] = v
-viewAfter v (b ∷ bs) = viewAfter (cutOne v b .view) bs

@@ -1,15 +1,17 @@
 -- The desk with its buffer, and its calls: what each answers, and what it leaves of the desk and of each lent buffer.
-use Prim.Native.Nat.{ℕ, suc, _+_}
+use Prim.Native.Nat.{ℕ, _+_}
 use mathlib.Core.Bool.{Bool, true, false, cond, _||_}
 use mathlib.Core.List.{List, [], _∷_, _++_}
 use mathlib.Core.Option.{Option, none, some}
 use lib.ListN.{length, take, drop, replicate}
 use lib.Dec.{ltb, eqb}
 use Rattle.text.specs.Reading.{Reading, read, refused}
-use Rattle.at_command.specs.Kind.{Kind}
-use Rattle.desk.specs.Cut.{View, dropping, held, Piece, nothing, blank, overlong, line, bare, long, cutOne}
-use Rattle.desk.specs.Judge.{Event, isOpen}
-use Rattle.desk.specs.Rules.{Seen, Verdict, judgePiece}
+use Rattle.desk.specs.Cut.{View, dropping, held, bare, long, cutOne}
+use Rattle.trial.specs.Sort.{lineSort}
+use Rattle.desk.specs.Machine.{Machine, Stop, after, feed, Judging, judged}
+use Rattle.desk.specs.Lines.{Line, lineOf}
+use Rattle.desk.specs.Judge.{Event, Seen, Command, idle, isOpen, judge}
+use Rattle.desk.specs.Rules.{Plain}
 
 -- ---- the buffer
 
@@ -33,42 +35,36 @@ laidBytes (held h) s b = cond (eqb b 10 || long (bare (h ++ b ∷ []))) s (h ++ 
 unfoldable pub layOne : Tray → ℕ → Tray
 layOne t b = record { bytes = laidBytes (viewOf t) (t .bytes) b; len = lenOf (cutOne (viewOf t) b .view) }
 
-unfoldable pub layAll : Tray → List ℕ → Tray
-layAll t [] = t
-layAll t (b ∷ bs) = layAll (layOne t b) bs
+-- the cutter with its buffer
+unfoldable pub buffered : Machine Tray Line
+buffered t b = record { state = layOne t b; tell = lineOf (cutOne (viewOf t) b .piece) }
 
 -- ---- the desk
 
-pub record State : Type 0 where
-  pub tray : Tray
-  pub awaited : List Kind
+-- the buffer, and the command that is open
+abbrev pub State : Type 0
+State = Judging Tray Command
+
+-- what the buffer holds, and the command
+abbrev pub viewed : State → Plain
+viewed s = record { wire = viewOf (s .wire); command = s .command }
+
+abbrev pub desk : Machine State Seen
+desk = judged (judge lineSort) buffered
+
+-- the desk after all these bytes, however they are fed
+abbrev pub afterBytes : State → List ℕ → State
+afterBytes s bytes = after desk s bytes
 
 -- a new desk is idle and holds nothing
 abbrev pub newState : State
-newState = record { tray = record { bytes = replicate 257 0; len = 0 }; awaited = [] }
+newState = record { wire = record { bytes = replicate 257 0; len = 0 }; command = idle }
 
 -- reset closes the command and forgets an unfinished line
 abbrev pub resetState : State → State
-resetState s = record { tray = record { bytes = s .tray .bytes; len = 0 }; awaited = [] }
+resetState s = record { wire = record { bytes = s .wire .bytes; len = 0 }; command = idle }
 
 -- ---- feed
-
--- where a feed stops
-abbrev pub stops : Piece → Bool
-stops nothing = false
-stops blank = false
-stops overlong = true
-stops (line l) = true
-
--- how many bytes of a chunk are taken: through the first that stops the feed, or all
-unfoldable pub countOf : View → List ℕ → ℕ
-countOf v [] = 0
-countOf v (b ∷ bs) = suc (cond (stops (cutOne v b .piece)) 0 (countOf (cutOne v b .view) bs))
-
--- the piece that it stops at, if it stops before the chunk's end
-unfoldable pub pieceIn : View → List ℕ → Piece
-pieceIn v [] = nothing
-pieceIn v (b ∷ bs) = cond (stops (cutOne v b .piece)) (cutOne v b .piece) (pieceIn (cutOne v b .view) bs)
 
 -- what a feed tells: how many bytes it took and, where an event came, the event and the size of its line
 pub data Heard : Type 0 where
@@ -89,24 +85,13 @@ pub record Fed : Type 0 where
   pub answer : Reading Heard
   pub text : List ℕ
 
--- how many bytes a desk takes of a chunk, and its verdict on the piece that it stops at
-abbrev pub takenOf : State → List ℕ → ℕ
-takenOf s chunk = countOf (viewOf (s .tray)) chunk
-
-abbrev pub verdictOf : State → List ℕ → Verdict
-verdictOf s chunk = judgePiece (s .awaited) (pieceIn (viewOf (s .tray)) chunk)
-
-abbrev pub heard : State → List ℕ → List ℕ → Fed
-heard s chunk text =
-    record {
-      state = record { tray = layAll (s .tray) (take (takenOf s chunk) chunk); awaited = verdictOf s chunk .awaited };
-      answer = read (heardOf (takenOf s chunk) (verdictOf s chunk .seen));
-      text = textOf (verdictOf s chunk .seen) text;
-    }
+-- the chunk is taken through the first byte that yields an event, or whole
+abbrev pub heard : Stop State Seen → List ℕ → Fed
+heard f text = record { state = f .state; answer = read (heardOf (f .taken) (f .tell)); text = textOf (f .tell) text }
 
 -- 10 with a text buffer under 256 bytes
 unfoldable pub fed : State → List ℕ → List ℕ → Fed
-fed s chunk text = cond (ltb (length text) 256) (record { state = s; answer = refused 10; text = text }) (heard s chunk text)
+fed s chunk text = cond (ltb (length text) 256) (record { state = s; answer = refused 10; text = text }) (heard (feed desk s chunk) text)
 
 -- ---- open
 
@@ -118,18 +103,18 @@ isClear (held (b ∷ bs)) = false
 
 -- 8 while a command is open, 9 while an unfinished line is held or being dropped, else what the writer says
 abbrev pub allowed : State → Reading (List ℕ) → Reading (List ℕ)
-allowed s command = cond (isOpen (s .awaited)) (refused 8) (cond (isClear (viewOf (s .tray))) command (refused 9))
+allowed s written = cond (isOpen (s .command)) (refused 8) (cond (isClear (viewOf (s .wire))) written (refused 9))
 
 pub record Opened : Type 0 where
   pub state : State
   pub answer : Reading ℕ
   pub out : List ℕ
 
-abbrev pub openedWith : State → List Kind → Reading (List ℕ) → List ℕ → Opened
-openedWith s awaited (read command) out =
-    record { state = record { tray = s .tray; awaited = awaited }; answer = read (length command); out = command ++ drop (length command) out }
-openedWith s awaited (refused k) out = record { state = s; answer = refused k; out = out }
+abbrev pub openedWith : State → Command → Reading (List ℕ) → List ℕ → Opened
+openedWith s c (read written) out =
+    record { state = record { wire = s .wire; command = c }; answer = read (length written); out = written ++ drop (length written) out }
+openedWith s c (refused k) out = record { state = s; answer = refused k; out = out }
 
--- an open of a request that awaits these answers, and whose writer gives this command or refusal
-unfoldable pub opened : State → List Kind → Reading (List ℕ) → List ℕ → Opened
-opened s awaited command out = openedWith s awaited (allowed s command) out
+-- an open of this command, for which the writer gives these bytes or a refusal
+unfoldable pub opened : State → Command → Reading (List ℕ) → List ℕ → Opened
+opened s c written out = openedWith s c (allowed s written) out

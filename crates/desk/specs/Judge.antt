@@ -2,11 +2,16 @@
 use Prim.Native.Nat.{ℕ}
 use mathlib.Core.Bool.{Bool, true, false, cond, _&&_}
 use mathlib.Core.List.{List, [], _∷_}
-use lib.ListN.{drop}
+use mathlib.Core.Option.{Option, none, some}
+use lib.ListN.{drop, getD}
 use lib.Dec.{eqb}
 use Rattle.text.specs.Reading.{Reading, read, refused}
 use Rattle.at_command.specs.Kind.{Kind, genericOk, simError, placeOf}
-use Rattle.desk.specs.Kind.{Sort, response, unsolicited, lineKind}
+use Rattle.trial.specs.Sort.{Sort, response, unsolicited}
+use Rattle.desk.specs.Machine.{Ruled}
+use Rattle.desk.specs.Lines.{Line, overlong, line}
+
+-- ---- events
 
 pub data Event : Type 0 where
   Overlong : Event
@@ -17,16 +22,59 @@ pub data Event : Type 0 where
   Short : Event
   Unsolicited : Event
 
--- The command is the answers that are still awaited, in order. None is awaited where no command is open.
-abbrev pub isOpen : List Kind → Bool
-isOpen [] = false
-isOpen (k ∷ ks) = true
+-- an event with its line; Overlong has none
+pub record Seen : Type 0 where
+  pub event : Event
+  pub line : List ℕ
+
+-- the number of an event, and of a stray
+abbrev pub eventNumber : Event → ℕ
+eventNumber Unsolicited = 1
+eventNumber Taken = 2
+eventNumber Done = 3
+eventNumber Short = 4
+eventNumber Failed = 5
+eventNumber (Stray n) = 6
+eventNumber Overlong = 7
+
+abbrev pub strayNumber : Event → ℕ
+strayNumber Unsolicited = 0
+strayNumber Taken = 0
+strayNumber Done = 0
+strayNumber Short = 0
+strayNumber Failed = 0
+strayNumber (Stray n) = n
+strayNumber Overlong = 0
+
+-- the event of a number, with a stray's number; 0 is none
+abbrev pub eventAt : ℕ → ℕ → Option Event
+eventAt e n = getD (none ∷ some Unsolicited ∷ some Taken ∷ some Done ∷ some Short ∷ some Failed ∷ some (Stray n) ∷ some Overlong ∷ []) e none
+
+-- ---- the command
+
+-- The command is the answers that it still awaits, in order. None is awaited where no command is open.
+pub record Command : Type 0 where
+  pub awaited : List Kind
+
+abbrev pub awaiting : List Kind → Command
+awaiting ks = record { awaited = ks }
+
+abbrev pub idle : Command
+idle = awaiting []
+
+abbrev pub anyAwaited : List Kind → Bool
+anyAwaited [] = false
+anyAwaited (k ∷ ks) = true
+
+abbrev pub isOpen : Command → Bool
+isOpen c = anyAwaited (c .awaited)
+
+-- ---- the tests of the table's first column
 
 -- two kinds are the same where their places in the order of trial are
 abbrev pub sameKind : Kind → Kind → Bool
 sameKind j k = eqb (placeOf j) (placeOf k)
 
--- the tests of the table's first column
 abbrev pub isRefused : Reading Sort → Bool
 isRefused (refused n) = true
 isRefused (read s) = false
@@ -50,36 +98,40 @@ abbrev pub numberOf : Reading Sort → ℕ
 numberOf (refused n) = n
 numberOf (read s) = 0
 
--- an event, and the answers that are awaited after it
-pub record Ruling : Type 0 where
-  pub awaited : List Kind
-  pub event : Event
+-- ---- the table
 
-abbrev pub stays : List Kind → Event → Ruling
-stays awaited e = record { awaited = awaited; event = e }
+-- an event, and the command after it
+abbrev pub Ruling : Type 0
+Ruling = Ruled Command Event
+
+abbrev pub stays : Command → Event → Ruling
+stays c e = record { command = c; event = e }
 
 abbrev pub closes : Event → Ruling
-closes e = record { awaited = []; event = e }
+closes e = record { command = idle; event = e }
 
 -- Taken; if the last, Done, which closes
 abbrev pub takesNext : List Kind → Ruling
-takesNext awaited = record { awaited = drop 1 awaited; event = cond (isOpen (drop 1 awaited)) Taken Done }
+takesNext awaited = record { command = awaiting (drop 1 awaited); event = cond (anyAwaited (drop 1 awaited)) Taken Done }
 
 -- The first row that fits decides.
-unfoldable pub table : List Kind → Reading Sort → Ruling
-table awaited s =
+unfoldable pub table : Command → Reading Sort → Ruling
+table c s =
     -- refused
-    cond (isRefused s) (stays awaited (Stray (numberOf s)))
+    cond (isRefused s) (stays c (Stray (numberOf s)))
     -- SimError, command open
-    (cond (isOpen awaited && isResponse simError s) (closes Failed)
+    (cond (isOpen c && isResponse simError s) (closes Failed)
     -- the next awaited answer
-    (cond (isNext awaited s) (takesNext awaited)
+    (cond (isNext (c .awaited) s) (takesNext (c .awaited))
     -- GenericOk, command open, another answer awaited next
-    (cond (isOpen awaited && isResponse genericOk s) (closes Short)
+    (cond (isOpen c && isResponse genericOk s) (closes Short)
     -- unsolicited
-    (cond (isUnsolicited s) (stays awaited Unsolicited)
+    (cond (isUnsolicited s) (stays c Unsolicited)
     -- other, or any response when idle
-    (stays awaited (Stray 0))))))
+    (stays c (Stray 0))))))
 
-unfoldable pub judge : List Kind → List ℕ → Ruling
-judge awaited l = table awaited (lineKind l)
+-- A line is judged by its sort; whoever sorts lines otherwise judges them otherwise.
+module _ (sortOf : List ℕ → Reading Sort) where
+  unfoldable pub judge : Command → Line → Ruled Command Seen
+  judge c overlong = record { command = c; event = record { event = Overlong; line = [] } }
+  judge c (line l) = record { command = table c (sortOf l) .command; event = record { event = table c (sortOf l) .event; line = l } }

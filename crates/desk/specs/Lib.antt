@@ -1,9 +1,12 @@
+pub mod Machine
 pub mod Cut
-pub mod Kind
+pub mod Lines
 pub mod Judge
 pub mod Rules
 pub mod Desk
 pub mod Search
 pub mod Says
-pub mod Script
+pub mod Keeps
+pub mod Slips
 pub mod Demand
+pub mod Calls

@@ -3,15 +3,15 @@ use Prim.Native.Nat.{ℕ}
 use mathlib.Core.List.{List, [], _∷_}
 use lib.ListN.{take}
 use Rattle.text.specs.Reading.{Reading, read, refused}
-use Rattle.at_command.specs.Kind.{Kind}
 use Rattle.at_command.specs.says.Request.{kindSays, encodedSays}
 use Rattle.at_command.specs.declared.request.Encoded.{Encoded}
 use Rattle.desk.specs.Cut.{Piece, nothing, blank, overlong, line}
-use Rattle.desk.specs.Kind.{Sort, response, unsolicited}
+use Rattle.desk.specs.Machine.{Stop}
+use Rattle.desk.specs.Lines.{Line, lineOf}
 use Rattle.desk.specs.Judge as J
-use Rattle.desk.specs.Judge.{Ruling}
-use Rattle.desk.specs.Desk.{State, Heard, quiet, event, Fed, Opened}
-use Rattle.desk.specs.Search.{trayOf, Pushed, Found}
+use Rattle.desk.specs.Judge.{idle, awaiting, Ruling}
+use Rattle.desk.specs.Desk.{Tray, State, Heard, quiet, event, Fed, Opened}
+use Rattle.desk.specs.Search.{trayOf, Pushed}
 use Rattle.desk.specs.declared.Event.{Event}
 use Rattle.desk.specs.declared.Event.the-variants as E
 use Rattle.desk.specs.declared.Desk.{Desk}
@@ -21,8 +21,6 @@ use Rattle.desk.specs.declared.cutter.Piece.{Piece as PieceCode}
 use Rattle.desk.specs.declared.cutter.Piece.the-variants as P
 use Rattle.desk.specs.declared.cutter.Pushed.{Pushed as PushedCode}
 use Rattle.desk.specs.declared.cutter.Found.{Found as FoundCode}
-use Rattle.desk.specs.declared.judge.LineKind.{LineKind}
-use Rattle.desk.specs.declared.judge.LineKind.the-variants as L
 use Rattle.desk.specs.declared.judge.Judged.{Judged}
 use Rattle.desk.specs.declared.feed.FedAnswer.{FedAnswer}
 use Rattle.desk.specs.declared.feed.FedAnswer.the-variants as F
@@ -32,15 +30,10 @@ use Rattle.desk.specs.declared.open.Opened.{Opened as OpenedCode}
 use Rattle.desk.specs.declared.open.OpenedParts.{OpenedParts}
 
 -- the answers that a command still awaits
-abbrev pub awaitedOf : Command → List Kind
-awaitedOf Idle = []
-awaitedOf (One a) = kindSays a ∷ []
-awaitedOf (Two a b) = kindSays a ∷ kindSays b ∷ []
-
-abbrev pub sortSays : LineKind → Reading Sort
-sortSays (L.Refused n) = refused n
-sortSays (L.Response k) = read (response (kindSays k))
-sortSays L.Unsolicited = read unsolicited
+abbrev pub commandSays : Command → J.Command
+commandSays Idle = idle
+commandSays (One a) = awaiting (kindSays a ∷ [])
+commandSays (Two a b) = awaiting (kindSays a ∷ kindSays b ∷ [])
 
 abbrev pub eventSays : Event → J.Event
 eventSays E.Overlong = J.Overlong
@@ -52,7 +45,7 @@ eventSays E.Short = J.Short
 eventSays E.Unsolicited = J.Unsolicited
 
 abbrev pub rulingSays : Judged → Ruling
-rulingSays j = record { awaited = awaitedOf (j .command); event = eventSays (j .event) }
+rulingSays j = record { command = commandSays (j .command); event = eventSays (j .event) }
 
 -- a line is so many of the buffer's first bytes
 abbrev pub pieceSays : PieceCode → List ℕ → Piece
@@ -69,7 +62,7 @@ sizeOf (P.Line n) = n
 
 -- the desk, whole and in its parts
 abbrev pub stateIn : List ℕ → ℕ → Command → State
-stateIn bytes len command = record { tray = record { bytes = bytes; len = len }; awaited = awaitedOf command }
+stateIn bytes len command = record { wire = record { bytes = bytes; len = len }; command = commandSays command }
 
 abbrev pub stateOf : Desk → State
 stateOf d = stateIn (d .cutter .line) (d .cutter .len) (d .command)
@@ -103,5 +96,5 @@ openedLentSays d r out = openedSays (record { desk = d; answer = r }) out
 abbrev pub pushedSays : PushedCode → List ℕ → Pushed
 pushedSays r bytes = record { tray = trayOf bytes (r .len); piece = pieceSays (r .piece) bytes }
 
-abbrev pub foundSays : FoundCode → List ℕ → Found
-foundSays r bytes = record { taken = r .taken; tray = trayOf bytes (r .len); piece = pieceSays (r .piece) bytes }
+abbrev pub foundSays : FoundCode → List ℕ → Stop Tray Line
+foundSays r bytes = record { taken = r .taken; tell = lineOf (pieceSays (r .piece) bytes); state = trayOf bytes (r .len) }

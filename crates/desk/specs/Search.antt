@@ -1,14 +1,17 @@
--- What the inner functions of a feed say: a search from a tray, bytes laid in it, bytes with no LF among them, and what is made of a piece.
+-- What the inner functions of a feed say: a search from a tray, bytes laid in it, bytes with no LF among them, and what is made of a line.
 use Prim.Native.Nat.{ℕ, _+_, _-_, _≤_, _<_}
 use mathlib.Core.Path.{_≡_}
-use mathlib.Core.Bool.{Bool, false}
+use mathlib.Core.Bool.{Bool, true, false}
 use mathlib.Core.List.{List, [], _∷_, _++_}
-use lib.ListN.{length, take, drop, getD}
+use mathlib.Core.Option.{Option, Option·map}
+use lib.ListN.{length, drop, getD}
 use Rattle.text.specs.Reading.{Reading, read}
-use Rattle.at_command.specs.Kind.{Kind}
-use Rattle.desk.specs.Cut.{Piece, bare, long as tooLong, cutOne}
-use Rattle.desk.specs.Rules.{Verdict}
-use Rattle.desk.specs.Desk.{Tray, viewOf, layOne, layAll, countOf, pieceIn, Heard, heardOf, textOf}
+use Rattle.desk.specs.Cut.{Piece, nothing, blank, overlong, line, bare, long as tooLong, cutOne}
+use Rattle.trial.specs.Sort.{lineSort}
+use Rattle.desk.specs.Machine.{Stop, feed, commandOf, eventOf}
+use Rattle.desk.specs.Lines.{Line}
+use Rattle.desk.specs.Judge.{Command, judge}
+use Rattle.desk.specs.Desk.{Tray, viewOf, layOne, buffered, Heard, heardOf, textOf}
 
 abbrev pub trayOf : List ℕ → ℕ → Tray
 trayOf bytes len = record { bytes = bytes; len = len }
@@ -21,15 +24,16 @@ pub record Pushed : Type 0 where
 abbrev pub pushOne : Tray → ℕ → Pushed
 pushOne t b = record { tray = layOne t b; piece = cutOne (viewOf t) b .piece }
 
--- a search through a chunk, n bytes having been taken before it
-pub record Found : Type 0 where
-  pub taken : ℕ
-  pub tray : Tray
-  pub piece : Piece
+-- where a feed stops
+abbrev pub stops : Piece → Bool
+stops nothing = false
+stops blank = false
+stops overlong = true
+stops (line l) = true
 
-abbrev pub foundAfter : ℕ → Tray → List ℕ → Found
-foundAfter n t chunk =
-    record { taken = n + countOf (viewOf t) chunk; tray = layAll t (take (countOf (viewOf t) chunk) chunk); piece = pieceIn (viewOf t) chunk }
+-- a search through a chunk, n bytes having been taken before it
+abbrev pub foundAfter : ℕ → Tray → List ℕ → Stop Tray Line
+foundAfter n t chunk = record { taken = n + feed buffered t chunk .taken; tell = feed buffered t chunk .tell; state = feed buffered t chunk .state }
 
 -- n bytes of chunk from at on are held behind the first len of the bytes, and the search goes on after them
 pub record Filled (bytes : List ℕ) (len : ℕ) (chunk : List ℕ) (at n : ℕ) (after : List ℕ) : Type 0 where
@@ -55,8 +59,8 @@ pub record Past (len b : ℕ) (r : Bool) : Type 0 where
   pub few : r ≡ false → len ≤ 256
   pub is : (h : List ℕ) → length h ≡ len → r ≡ tooLong (bare (h ++ b ∷ []))
 
--- what a feed makes of a verdict, n bytes having been taken: the answers awaited, what is told, and the text buffer
-pub record Tells (v : Verdict) (n : ℕ) (text : List ℕ) (awaited : List Kind) (answer : Reading Heard) (after : List ℕ) : Type 0 where
-  pub commands : awaited ≡ v .awaited
-  pub answers : answer ≡ read (heardOf n (v .seen))
-  pub texts : after ≡ textOf (v .seen) text
+-- what a feed makes of what the search told, n bytes having been taken: the command, the answer, and the text buffer
+pub record Tells (c : Command) (told : Option Line) (n : ℕ) (text : List ℕ) (c′ : Command) (answer : Reading Heard) (text′ : List ℕ) : Type 0 where
+  pub commands : c′ ≡ commandOf c (Option·map (judge lineSort c) told)
+  pub answers : answer ≡ read (heardOf n (eventOf (Option·map (judge lineSort c) told)))
+  pub texts : text′ ≡ textOf (eventOf (Option·map (judge lineSort c) told)) text

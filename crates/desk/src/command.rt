@@ -3,8 +3,8 @@ use at_command::request::Awaits;
 use at_command::request::ResponseKind;
 ghost use mathlib.Core.Path.{_≡_};
 ghost use Rattle.at_command.specs.says.Request.{awaitsSays};
-ghost use Rattle.desk.specs.Judge.{isOpen};
-ghost use Rattle.desk.specs.Says.{awaitedOf};
+ghost use Rattle.desk.specs.Judge.{isOpen, awaiting};
+ghost use Rattle.desk.specs.Says.{commandSays};
 
 pub enum Command {
     Idle,
@@ -13,7 +13,7 @@ pub enum Command {
 }
 
 pub(crate) fn is_open(command: Command) -> bool
-    ensures { λ r. ⌜ r ≡ isOpen (awaitedOf command) ⌝ }
+    ensures { λ r. ⌜ r ≡ isOpen (commandSays command) ⌝ }
 {
     match command {
         Command::Idle => false,
@@ -23,7 +23,7 @@ pub(crate) fn is_open(command: Command) -> bool
 }
 
 pub(crate) fn opened(awaits: Awaits) -> Command
-    ensures { λ r. ⌜ awaitedOf r ≡ awaitsSays awaits ⌝ }
+    ensures { λ r. ⌜ commandSays r ≡ awaiting (awaitsSays awaits) ⌝ }
 {
     match awaits {
         Awaits::One(a) => Command::One(a),

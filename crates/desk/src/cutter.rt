@@ -1,11 +1,12 @@
 // Cutting a modem's bytes into lines, with no array copied.
+use text::copy;
 ghost use mathlib.Core.Path.{_≡_};
 ghost use mathlib.Core.List.{List, [], _∷_, _++_};
 ghost use Prim.Native.Nat.{ℕ, _+_, _≤_};
 ghost use lib.ListN.{length, take};
 ghost use Rattle.desk.specs.Cut.{isPrompt, cutOne};
-ghost use Rattle.desk.specs.Desk.{viewOf, stops};
-ghost use Rattle.desk.specs.Search.{trayOf, pushOne, foundAfter, Filled, Clear, Putting, Past};
+ghost use Rattle.desk.specs.Desk.{viewOf};
+ghost use Rattle.desk.specs.Search.{trayOf, stops, pushOne, foundAfter, Filled, Clear, Putting, Past};
 ghost use Rattle.desk.specs.Says.{pieceSays, pushedSays, foundSays};
 
 // The bytes of the line that is coming: line[..len] where len is at most 257. Above 257 the line is being dropped.
@@ -130,15 +131,6 @@ fn push(line: &mut [u8; 257], len: usize, b: u8) -> Pushed
     }
 }
 
-fn least(a: usize, b: usize) -> usize
-    ensures { λ r. ⌜ (r ≤ a) × (r ≤ b) ⌝ }
-{
-    if a < b {
-        return a;
-    }
-    b
-}
-
 // How many of the four bytes of chunk from at on come before the first LF.
 fn four(chunk: &[u8], at: usize) -> usize
     requires { ⌜ at + 4 ≤ length (now chunk) ⌝ }
@@ -225,7 +217,7 @@ fn fill(line: &mut [u8; 257], len: usize, chunk: &[u8], at: usize) -> usize
     if at >= chunk.len() {
         return 0;
     }
-    let most = least(chunk.len() - at, 256 - len);
+    let most = copy::least(chunk.len() - at, 256 - len);
     let n = scan(chunk, at, most);
     put(line, len, chunk, at, n);
     n

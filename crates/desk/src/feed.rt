@@ -5,14 +5,13 @@ use crate::command::Command;
 use crate::cutter;
 use crate::cutter::Piece;
 use crate::judge;
-ghost use mathlib.Core.Path.{_≡_};
-ghost use mathlib.Core.List.{_++_};
+use text::copy;
 ghost use Prim.Native.Nat.{_≤_};
-ghost use lib.ListN.{length, take, drop};
-ghost use Rattle.desk.specs.Rules.{judgePiece};
-ghost use Rattle.desk.specs.Desk.{fed};
+ghost use lib.ListN.{length};
+ghost use Rattle.desk.specs.Lines.{lineOf};
 ghost use Rattle.desk.specs.Search.{Tells};
-ghost use Rattle.desk.specs.Says.{awaitedOf, pieceSays, sizeOf, answerSays, stateOf, fedSays, partsSays, stateIn};
+ghost use Rattle.desk.specs.Says.{commandSays, pieceSays, sizeOf, answerSays};
+ghost use Rattle.desk.specs.Keeps.{FeedKeeps, FeedOnKeeps};
 
 // The refusal, 10; or the bytes taken with no event; or the event, the bytes taken and the size of its line.
 pub enum FedAnswer {
@@ -43,22 +42,10 @@ struct Ruled {
     answer: FedAnswer,
 }
 
-// Lays the first n bytes of src at the front of dst.
-fn lay(src: &[u8], n: usize, dst: &mut [u8])
-    requires { ⌜ (n ≤ length (now src)) × (n ≤ length (now dst)) ⌝ }
-    ensures { λ _. ⌜ now (dst .exit) ≡ take n (now (src .entry)) ++ drop n (now (dst .entry)) ⌝ }
-{
-    let mut i = 0;
-    while i < n {
-        dst[i] = src[i];
-        i += 1;
-    }
-}
-
 // What a piece tells; a line is laid in text.
 fn rule(command: Command, piece: Piece, taken: usize, line: &[u8], text: &mut [u8]) -> Ruled
     requires { ⌜ (sizeOf piece ≤ length (now line)) × (sizeOf piece ≤ length (now text)) ⌝ }
-    ensures { λ r. ⌜ Tells (judgePiece (awaitedOf command) (pieceSays piece (now (line .entry)))) taken (now (text .entry)) (awaitedOf (r .command)) (answerSays (r .answer)) (now (text .exit)) ⌝ }
+    ensures { λ r. ⌜ Tells (commandSays command) (lineOf (pieceSays piece (now (line .entry)))) taken (now (text .entry)) (commandSays (r .command)) (answerSays (r .answer)) (now (text .exit)) ⌝ }
 {
     match piece {
         Piece::Nothing => Ruled {
@@ -78,9 +65,9 @@ fn rule(command: Command, piece: Piece, taken: usize, line: &[u8], text: &mut [u
             },
         },
         Piece::Line(n) => {
-            let kind = judge::kind_of(&line[..n]);
-            let j = judge::judge(command, kind);
-            lay(line, n, text);
+            let sort = trial::sort_of(&line[..n]);
+            let j = judge::judge(command, sort);
+            let _end = copy::lay(&line[..n], 0, text);
             let after = j.command;
             let event = j.event;
             Ruled {
@@ -103,7 +90,7 @@ pub fn feed_on(
     chunk: &[u8],
     text: &mut [u8],
 ) -> FedParts
-    ensures { λ r. ⌜ partsSays r (now (line .exit)) (now (text .exit)) ≡ fed (stateIn (now (line .entry)) len command) (now (chunk .entry)) (now (text .entry)) ⌝ }
+    ensures { λ r. ⌜ FeedOnKeeps (now (line .entry)) len command (now (chunk .entry)) (now (text .entry)) r (now (line .exit)) (now (text .exit)) ⌝ }
 {
     if text.len() < 256 {
         return FedParts {
@@ -126,7 +113,7 @@ pub fn feed_on(
 
 impl Desk {
     pub fn feed(self, chunk: &[u8], text: &mut [u8]) -> Fed
-        ensures { λ r. ⌜ fedSays r (now (text .exit)) ≡ fed (stateOf self) (now (chunk .entry)) (now (text .entry)) ⌝ }
+        ensures { λ r. ⌜ FeedKeeps self (now (chunk .entry)) (now (text .entry)) r (now (text .exit)) ⌝ }
     {
         let command = self.command;
         let mut cutter = self.cutter;

@@ -1,61 +1,20 @@
 // The desk's table: what a line is to the command that is open.
 use crate::Event;
 use crate::command::Command;
-use at_command::ResponseCode;
-use at_command::ResponseCodeAnswer;
 use at_command::request::ResponseKind;
-use text::line;
-use unsolicited::Urc;
-use unsolicited::UrcAnswer;
+use trial::Sort;
 ghost use mathlib.Core.Path.{_≡_};
 ghost use mathlib.Core.Bool.{cond};
 ghost use Rattle.at_command.specs.Kind.{simError, genericOk};
 ghost use Rattle.at_command.specs.says.Request.{kindSays};
-ghost use Rattle.desk.specs.Kind.{lineKind};
+ghost use Rattle.trial.specs.says.Line.{sortSays};
 ghost use Rattle.desk.specs.Judge.{Failed, Short, sameKind, closes, table};
-ghost use Rattle.desk.specs.Says.{awaitedOf, sortSays, rulingSays};
-
-// What a line is.
-pub enum LineKind {
-    Refused(u8),
-    Response(ResponseKind),
-    Unsolicited,
-}
+ghost use Rattle.desk.specs.Says.{commandSays, rulingSays};
 
 // An event, and the command after it.
 pub struct Judged {
     pub command: Command,
     pub event: Event,
-}
-
-// The responses, then the unsolicited. Each trial checks the line, and of one that does not pass both say the same. The second is not asked where the
-// first says that the line passes and it does not begin as an unsolicited one, so that most lines are checked once.
-pub(crate) fn kind_of(s: &[u8]) -> LineKind
-    ensures { λ r. ⌜ sortSays r ≡ lineKind (now (s .entry)) ⌝ }
-{
-    let response = ResponseCode::from_line(s);
-    match response {
-        ResponseCodeAnswer::Value(code) => {
-            let kind = code.kind();
-            LineKind::Response(kind)
-        }
-        ResponseCodeAnswer::Refused(j) => {
-            if 2 < j {
-                if !Urc::begins(s) {
-                    let n = line::worse_of(j, 3);
-                    return LineKind::Refused(n);
-                }
-            }
-            let urc = Urc::from_line(s);
-            match urc {
-                UrcAnswer::Value(_) => LineKind::Unsolicited,
-                UrcAnswer::Refused(k) => {
-                    let n = line::worse_of(j, k);
-                    LineKind::Refused(n)
-                }
-            }
-        }
-    }
 }
 
 fn same(a: ResponseKind, b: ResponseKind) -> bool
@@ -89,19 +48,19 @@ fn respond(kind: ResponseKind, next: ResponseKind, taken: Judged, other: Judged)
 }
 
 // The first row that fits decides.
-pub(crate) fn judge(command: Command, kind: LineKind) -> Judged
-    ensures { λ r. ⌜ rulingSays r ≡ table (awaitedOf command) (sortSays kind) ⌝ }
+pub(crate) fn judge(command: Command, sort: Sort) -> Judged
+    ensures { λ r. ⌜ rulingSays r ≡ table (commandSays command) (sortSays sort) ⌝ }
 {
-    match kind {
-        LineKind::Refused(n) => Judged {
+    match sort {
+        Sort::Refused(n) => Judged {
             command: command,
             event: Event::Stray(n),
         },
-        LineKind::Unsolicited => Judged {
+        Sort::Unsolicited => Judged {
             command: command,
             event: Event::Unsolicited,
         },
-        LineKind::Response(k) => {
+        Sort::Response(k) => {
             let other = Judged {
                 command: command,
                 event: Event::Stray(0),

@@ -3,16 +3,11 @@ use crate::Desk;
 use crate::feed::FedAnswer;
 use at_command::request::Encoded;
 use at_command::request::Request;
-ghost use mathlib.Core.Path.{_≡_};
-ghost use lib.ListN.{length};
-ghost use Rattle.at_command.specs.Request.{encodeReading};
-ghost use Rattle.at_command.specs.says.Request.{asked, awaitedBy};
-ghost use Rattle.desk.specs.Desk.{fed, opened, resetState};
-ghost use Rattle.desk.specs.Says.{stateOf, fedLentSays, openedLentSays};
+ghost use Rattle.desk.specs.Keeps.{ResetKeeps, FeedLentKeeps, OpenLentKeeps};
 
 impl Desk {
     pub fn feed_lent(&mut self, chunk: &[u8], text: &mut [u8]) -> FedAnswer
-        ensures { λ r. ⌜ fedLentSays (now (self .exit)) r (now (text .exit)) ≡ fed (stateOf (now (self .entry))) (now (chunk .entry)) (now (text .entry)) ⌝ }
+        ensures { λ r. ⌜ FeedLentKeeps (now (self .entry)) (now (chunk .entry)) (now (text .entry)) (now (self .exit)) r (now (text .exit)) ⌝ }
     {
         let fed = (*self).feed(chunk, text);
         *self = fed.desk;
@@ -26,7 +21,7 @@ impl Desk {
         second: &[u8],
         out: &mut [u8],
     ) -> Encoded
-        ensures { λ r. ⌜ openedLentSays (now (self .exit)) r (now (out .exit)) ≡ opened (stateOf (now (self .entry))) (awaitedBy request) (encodeReading (asked request (now (first .entry)) (now (second .entry))) (length (now (out .entry)))) (now (out .entry)) ⌝ }
+        ensures { λ r. ⌜ OpenLentKeeps (now (self .entry)) request (now (first .entry)) (now (second .entry)) (now (out .entry)) (now (self .exit)) r (now (out .exit)) ⌝ }
     {
         let opened = (*self).open(request, first, second, out);
         *self = opened.desk;
@@ -34,7 +29,7 @@ impl Desk {
     }
 
     pub fn reset_lent(&mut self)
-        ensures { λ _. ⌜ stateOf (now (self .exit)) ≡ resetState (stateOf (now (self .entry))) ⌝ }
+        ensures { λ _. ⌜ ResetKeeps (now (self .entry)) (now (self .exit)) ⌝ }
     {
         *self = (*self).reset();
     }

@@ -1,7 +1,8 @@
 // The desk: a modem's bytes are cut into lines, and each line is an event of the open command, an unsolicited one or a stray.
-ghost use mathlib.Core.Path.{_≡_};
-ghost use Rattle.desk.specs.Desk.{newState};
-ghost use Rattle.desk.specs.Says.{stateOf};
+ghost use Rattle.text.specs.Gives.{Gives};
+ghost use Rattle.desk.specs.Judge.{eventNumber, strayNumber};
+ghost use Rattle.desk.specs.Says.{eventSays};
+ghost use Rattle.desk.specs.Keeps.{NewKeeps};
 
 mod command;
 mod cutter;
@@ -37,9 +38,40 @@ pub enum Event {
     Unsolicited,
 }
 
+impl Event {
+    pub fn number(self) -> u64
+        ensures { λ r. ⌜ Gives (eventNumber (eventSays self)) r ⌝ }
+    {
+        match self {
+            Event::Unsolicited => 1,
+            Event::Taken => 2,
+            Event::Done => 3,
+            Event::Short => 4,
+            Event::Failed => 5,
+            Event::Stray(_) => 6,
+            Event::Overlong => 7,
+        }
+    }
+
+    // The number of a stray, 0 of any other event.
+    pub fn stray(self) -> u64
+        ensures { λ r. ⌜ Gives (strayNumber (eventSays self)) r ⌝ }
+    {
+        match self {
+            Event::Unsolicited => 0,
+            Event::Taken => 0,
+            Event::Done => 0,
+            Event::Short => 0,
+            Event::Failed => 0,
+            Event::Stray(n) => n as u64,
+            Event::Overlong => 0,
+        }
+    }
+}
+
 impl Desk {
     pub fn new() -> Self
-        ensures { λ r. ⌜ stateOf r ≡ newState ⌝ }
+        ensures { λ r. ⌜ NewKeeps r ⌝ }
     {
         let line = [0u8; 257];
         Desk {

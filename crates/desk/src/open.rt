@@ -4,14 +4,7 @@ use crate::command;
 use crate::command::Command;
 use at_command::request::Encoded;
 use at_command::request::Request;
-ghost use mathlib.Core.Path.{_≡_};
-ghost use mathlib.Core.List.{List};
-ghost use Prim.Native.Nat.{ℕ};
-ghost use lib.ListN.{length};
-ghost use Rattle.at_command.specs.Request.{encodeReading};
-ghost use Rattle.at_command.specs.says.Request.{asked, awaitedBy};
-ghost use Rattle.desk.specs.Desk.{opened};
-ghost use Rattle.desk.specs.Says.{stateIn, stateOf, openedSays, openedPartsSays};
+ghost use Rattle.desk.specs.Keeps.{OpenKeeps, OpenOnKeeps};
 
 // The size of the command that was written, or the refusal: 8, 9, 5, 6, 7.
 pub struct Opened {
@@ -34,7 +27,7 @@ pub fn open_on(
     second: &[u8],
     out: &mut [u8],
 ) -> OpenedParts
-    ensures { λ r. ⌜ ((bytes : List ℕ) → length bytes ≡ 257 → openedPartsSays r bytes len (now (out .exit)) ≡ opened (stateIn bytes len command) (awaitedBy request) (encodeReading (asked request (now (first .entry)) (now (second .entry))) (length (now (out .entry)))) (now (out .entry))) ⌝ }
+    ensures { λ r. ⌜ OpenOnKeeps len command request (now (first .entry)) (now (second .entry)) (now (out .entry)) r (now (out .exit)) ⌝ }
 {
     if command::is_open(command) {
         return OpenedParts {
@@ -67,7 +60,7 @@ pub fn open_on(
 
 impl Desk {
     pub fn open(self, request: Request, first: &[u8], second: &[u8], out: &mut [u8]) -> Opened
-        ensures { λ r. ⌜ openedSays r (now (out .exit)) ≡ opened (stateOf self) (awaitedBy request) (encodeReading (asked request (now (first .entry)) (now (second .entry))) (length (now (out .entry)))) (now (out .entry)) ⌝ }
+        ensures { λ r. ⌜ OpenKeeps self request (now (first .entry)) (now (second .entry)) (now (out .entry)) r (now (out .exit)) ⌝ }
     {
         let cutter = self.cutter;
         let command = self.command;

@@ -2,13 +2,11 @@
 use crate::Desk;
 use crate::command::Command;
 use crate::cutter::Cutter;
-ghost use mathlib.Core.Path.{_≡_};
-ghost use Rattle.desk.specs.Desk.{resetState};
-ghost use Rattle.desk.specs.Says.{stateOf};
+ghost use Rattle.desk.specs.Keeps.{ResetKeeps};
 
 impl Desk {
     pub fn reset(self) -> Desk
-        ensures { λ r. ⌜ stateOf r ≡ resetState (stateOf self) ⌝ }
+        ensures { λ r. ⌜ ResetKeeps self r ⌝ }
     {
         let cutter = self.cutter;
         let line = cutter.line;

@@ -1,40 +1,44 @@
-// Says what both trials read in each line of standard input, responses first: one line each, in the formats of oracle/README.md. Lines are cut at LF, one CR
-// before it goes, and a last line needs no LF.
+// Says what each line of standard input says: one line each, in the formats of oracle/README.md. Lines are cut at LF, one CR before it goes, and a last
+// line needs no LF.
 use at_command::ResponseCode;
-use at_command::ResponseCodeAnswer;
 use at_command::ccid::Iccid;
 use at_command::cmgf::SmsMessageFormat;
-use at_command::cmgr::SmsMessage;
 use at_command::cntp::NetworkTime;
 use at_command::cntp::SyncNtpStatusCode;
 use at_command::cntp::TimePlace;
 use at_command::cops::OperatorFormat;
 use at_command::cops::OperatorInfo;
 use at_command::cops::OperatorMode;
+use at_command::cops::OperatorName;
 use at_command::cpsi::OperationMode;
 use at_command::cpsi::SystemInfo;
 use at_command::cpsi::SystemMode;
 use at_command::csq::SignalLevel;
 use at_command::csq::SignalQuality;
 use at_command::generic_response::SimError;
-use at_command::gsn::Imei;
 use at_command::httptofs::DownloadInfo;
 use at_command::httptofs::StatusCode;
 use console::input;
 use console::input::Next;
 use console::output;
-use text::line;
 use text::number::ParsedU16;
 use text::number::ParsedU32;
 use text::part;
 use text::part::Place;
+use text::reader;
+use trial::Line;
 use unsolicited::Urc;
-use unsolicited::UrcAnswer;
 use unsolicited::network_registration::NetworkRegistration;
 use unsolicited::network_registration::RegistrationStatus;
 use unsolicited::ugnsinf::DateTime;
 use unsolicited::ugnsinf::GnssFix;
 use unsolicited::ugnsinf::GnssReport;
+
+// A space and word n of a list.
+fn word(out: &mut [u8], at: usize, words: &[u8], n: usize) -> usize {
+    let e = output::put(out, at, b" ");
+    output::put(out, e, reader::nth_field(words, n))
+}
 
 // A space and the number.
 fn number(out: &mut [u8], at: usize, n: u64) -> usize {
@@ -58,30 +62,28 @@ fn quoted(out: &mut [u8], at: usize, text: &[u8]) -> usize {
     output::put(out, b, b"\"")
 }
 
+// The same with the text that stands there in the line.
+fn placed(out: &mut [u8], at: usize, line: &[u8], place: Place) -> usize {
+    quoted(out, at, part::part(line, place.start, place.end))
+}
+
+fn coded(out: &mut [u8], at: usize, kind: &[u8], code: u32) -> usize {
+    let e = output::put(out, at, kind);
+    number(out, e, code as u64)
+}
+
 fn sim_error(out: &mut [u8], at: usize, error: SimError) -> usize {
     match error {
-        SimError::Generic => output::put(out, at, b"SimError Generic"),
-        SimError::CmeErr { code } => {
-            let e = output::put(out, at, b"SimError CmeErr");
-            number(out, e, code as u64)
-        }
-        SimError::CmsErr { code } => {
-            let e = output::put(out, at, b"SimError CmsErr");
-            number(out, e, code as u64)
-        }
+        SimError::Generic => output::put(out, at, b" Generic"),
+        SimError::CmeErr { code } => coded(out, at, b" CmeErr", code),
+        SimError::CmsErr { code } => coded(out, at, b" CmsErr", code),
     }
 }
 
-fn close_ok(out: &mut [u8], at: usize, connection: u64) -> usize {
-    let e = output::put(out, at, b"CloseOk");
-    number(out, e, connection)
-}
-
 fn iccid(out: &mut [u8], at: usize, id: Iccid) -> usize {
-    let a = output::put(out, at, b"Iccid");
-    let b = number(out, a, id.country as u64);
-    let c = number(out, b, id.issuer as u64);
-    number(out, c, id.account)
+    let a = number(out, at, id.country as u64);
+    let b = number(out, a, id.issuer as u64);
+    number(out, b, id.account)
 }
 
 fn level(out: &mut [u8], at: usize, l: SignalLevel) -> usize {
@@ -94,89 +96,99 @@ fn level(out: &mut [u8], at: usize, l: SignalLevel) -> usize {
 fn signal_quality(out: &mut [u8], at: usize, q: SignalQuality) -> usize {
     let strength = q.signal_strength;
     let quality = q.signal_quality;
-    let a = output::put(out, at, b"SignalQuality");
-    let b = level(out, a, strength);
-    level(out, b, quality)
+    let e = level(out, at, strength);
+    level(out, e, quality)
 }
 
-fn system_mode(out: &mut [u8], at: usize, mode: SystemMode) -> usize {
+fn system_mode(mode: SystemMode) -> usize {
     match mode {
-        SystemMode::NoService => output::put(out, at, b"SystemInfo NoService"),
-        SystemMode::Gsm => output::put(out, at, b"SystemInfo Gsm"),
-        SystemMode::LteCatM1 => output::put(out, at, b"SystemInfo LteCatM1"),
-        SystemMode::LteNbIot => output::put(out, at, b"SystemInfo LteNbIot"),
+        SystemMode::NoService => 0,
+        SystemMode::Gsm => 1,
+        SystemMode::LteCatM1 => 2,
+        SystemMode::LteNbIot => 3,
     }
 }
 
-fn operation_mode(out: &mut [u8], at: usize, mode: OperationMode) -> usize {
+fn operation_mode(mode: OperationMode) -> usize {
     match mode {
-        OperationMode::Online => output::put(out, at, b" Online"),
-        OperationMode::Offline => output::put(out, at, b" Offline"),
-        OperationMode::FactoryTest => output::put(out, at, b" FactoryTest"),
-        OperationMode::Reset => output::put(out, at, b" Reset"),
-        OperationMode::LowPower => output::put(out, at, b" LowPower"),
+        OperationMode::Online => 0,
+        OperationMode::Offline => 1,
+        OperationMode::FactoryTest => 2,
+        OperationMode::Reset => 3,
+        OperationMode::LowPower => 4,
     }
 }
 
 fn system_info(out: &mut [u8], at: usize, info: SystemInfo) -> usize {
     let system = info.system_mode;
     let operation = info.operation_mode;
-    let e = system_mode(out, at, system);
-    operation_mode(out, e, operation)
+    let e = word(
+        out,
+        at,
+        b"NoService,Gsm,LteCatM1,LteNbIot",
+        system_mode(system),
+    );
+    word(
+        out,
+        e,
+        b"Online,Offline,FactoryTest,Reset,LowPower",
+        operation_mode(operation),
+    )
 }
 
-fn operator_mode(out: &mut [u8], at: usize, mode: OperatorMode) -> usize {
+fn operator_mode(mode: OperatorMode) -> usize {
     match mode {
-        OperatorMode::Automatic => output::put(out, at, b"OperatorInfo Automatic"),
-        OperatorMode::Manual => output::put(out, at, b"OperatorInfo Manual"),
-        OperatorMode::ManualDeregister => output::put(out, at, b"OperatorInfo ManualDeregister"),
-        OperatorMode::ManualAutomatic => output::put(out, at, b"OperatorInfo ManualAutomatic"),
+        OperatorMode::Automatic => 0,
+        OperatorMode::Manual => 1,
+        OperatorMode::ManualDeregister => 2,
+        OperatorMode::ManualAutomatic => 3,
     }
 }
 
-fn operator_format(out: &mut [u8], at: usize, format: OperatorFormat) -> usize {
+fn operator_format(format: OperatorFormat) -> usize {
     match format {
-        OperatorFormat::Long => output::put(out, at, b" Long"),
-        OperatorFormat::Short => output::put(out, at, b" Short"),
-        OperatorFormat::Numeric => output::put(out, at, b" Numeric"),
+        OperatorFormat::Long => 0,
+        OperatorFormat::Short => 1,
+        OperatorFormat::Numeric => 2,
+    }
+}
+
+fn operator_name(out: &mut [u8], at: usize, line: &[u8], name: OperatorName) -> usize {
+    match name {
+        OperatorName::InLine(place) => placed(out, at, line, place),
+        // the trial's is empty
+        OperatorName::InFallback(_) => quoted(out, at, b""),
     }
 }
 
 fn operator_info(out: &mut [u8], at: usize, line: &[u8], info: OperatorInfo) -> usize {
     let mode = info.mode;
     let format = info.format;
-    let a = operator_mode(out, at, mode);
-    let b = operator_format(out, a, format);
-    // with the trial's fallbacks
-    quoted(out, b, OperatorInfo::name_part(line, b"0", b""))
+    let name = info.operator_name;
+    let a = word(
+        out,
+        at,
+        b"Automatic,Manual,ManualDeregister,ManualAutomatic",
+        operator_mode(mode),
+    );
+    let b = word(out, a, b"Long,Short,Numeric", operator_format(format));
+    operator_name(out, b, line, name)
 }
 
-fn ntp_code(out: &mut [u8], at: usize, code: SyncNtpStatusCode) -> usize {
+fn ntp_code(code: SyncNtpStatusCode) -> usize {
     match code {
-        SyncNtpStatusCode::Success => output::put(out, at, b"NetworkTime Success"),
-        SyncNtpStatusCode::NetworkError => output::put(out, at, b"NetworkTime NetworkError"),
-        SyncNtpStatusCode::DnsResolutionError => output::put(
-            out,
-            at,
-            b"NetworkTime DnsResolutionError",
-        ),
-        SyncNtpStatusCode::ConnectionError => output::put(out, at, b"NetworkTime ConnectionError"),
-        SyncNtpStatusCode::ServiceResponseError => output::put(
-            out,
-            at,
-            b"NetworkTime ServiceResponseError",
-        ),
-        SyncNtpStatusCode::ServiceResponseTimeout => output::put(
-            out,
-            at,
-            b"NetworkTime ServiceResponseTimeout",
-        ),
+        SyncNtpStatusCode::Success => 0,
+        SyncNtpStatusCode::NetworkError => 1,
+        SyncNtpStatusCode::DnsResolutionError => 2,
+        SyncNtpStatusCode::ConnectionError => 3,
+        SyncNtpStatusCode::ServiceResponseError => 4,
+        SyncNtpStatusCode::ServiceResponseTimeout => 5,
     }
 }
 
 fn time_text(out: &mut [u8], at: usize, line: &[u8], time: TimePlace) -> usize {
     match time {
-        TimePlace::Some(_) => quoted(out, at, NetworkTime::time_part(line)),
+        TimePlace::Some(place) => placed(out, at, line, place),
         TimePlace::None => none(out, at),
     }
 }
@@ -184,98 +196,83 @@ fn time_text(out: &mut [u8], at: usize, line: &[u8], time: TimePlace) -> usize {
 fn network_time(out: &mut [u8], at: usize, line: &[u8], time: NetworkTime) -> usize {
     let code = time.code;
     let text = time.time;
-    let e = ntp_code(out, at, code);
+    let e = word(
+        out,
+        at,
+        b"Success,NetworkError,DnsResolutionError,ConnectionError,ServiceResponseError,ServiceResponseTimeout",
+        ntp_code(code),
+    );
     time_text(out, e, line, text)
 }
 
-fn status_code(out: &mut [u8], at: usize, code: StatusCode) -> usize {
+fn status_code(code: StatusCode) -> usize {
     match code {
-        StatusCode::Continue => output::put(out, at, b"DownloadInfo Continue"),
-        StatusCode::Ok => output::put(out, at, b"DownloadInfo Ok"),
-        StatusCode::PartialContent => output::put(out, at, b"DownloadInfo PartialContent"),
-        StatusCode::BadRequest => output::put(out, at, b"DownloadInfo BadRequest"),
-        StatusCode::NotFound => output::put(out, at, b"DownloadInfo NotFound"),
-        StatusCode::RequestTimeout => output::put(out, at, b"DownloadInfo RequestTimeout"),
-        StatusCode::InternalServerError => output::put(
-            out,
-            at,
-            b"DownloadInfo InternalServerError",
-        ),
-        StatusCode::NotHttpPdu => output::put(out, at, b"DownloadInfo NotHttpPdu"),
-        StatusCode::NetworkError => output::put(out, at, b"DownloadInfo NetworkError"),
-        StatusCode::NoMemory => output::put(out, at, b"DownloadInfo NoMemory"),
-        StatusCode::DnsError => output::put(out, at, b"DownloadInfo DnsError"),
-        StatusCode::StackBusy => output::put(out, at, b"DownloadInfo StackBusy"),
-        StatusCode::SslContinue => output::put(out, at, b"DownloadInfo SslContinue"),
-        StatusCode::OtherErrors => output::put(out, at, b"DownloadInfo OtherErrors"),
+        StatusCode::Continue => 0,
+        StatusCode::Ok => 1,
+        StatusCode::PartialContent => 2,
+        StatusCode::BadRequest => 3,
+        StatusCode::NotFound => 4,
+        StatusCode::RequestTimeout => 5,
+        StatusCode::InternalServerError => 6,
+        StatusCode::NotHttpPdu => 7,
+        StatusCode::NetworkError => 8,
+        StatusCode::NoMemory => 9,
+        StatusCode::DnsError => 10,
+        StatusCode::StackBusy => 11,
+        StatusCode::SslContinue => 12,
+        StatusCode::OtherErrors => 13,
     }
 }
 
 fn download_info(out: &mut [u8], at: usize, info: DownloadInfo) -> usize {
     let code = info.status_code;
-    let e = status_code(out, at, code);
+    let e = word(
+        out,
+        at,
+        b"Continue,Ok,PartialContent,BadRequest,NotFound,RequestTimeout,InternalServerError,NotHttpPdu,NetworkError,NoMemory,DnsError,StackBusy,SslContinue,OtherErrors",
+        status_code(code),
+    );
     number(out, e, info.data_length)
 }
 
-fn imei(out: &mut [u8], at: usize, line: &[u8]) -> usize {
-    let e = output::put(out, at, b"Imei");
-    quoted(out, e, Imei::imei_part(line))
-}
-
-fn sms_message_format(out: &mut [u8], at: usize, format: SmsMessageFormat) -> usize {
+fn message_format(format: SmsMessageFormat) -> usize {
     match format {
-        SmsMessageFormat::Pdu => output::put(out, at, b"SmsMessageFormat Pdu"),
-        SmsMessageFormat::Text => output::put(out, at, b"SmsMessageFormat Text"),
+        SmsMessageFormat::Pdu => 0,
+        SmsMessageFormat::Text => 1,
     }
 }
 
-fn sms_message(out: &mut [u8], at: usize, line: &[u8]) -> usize {
-    let e = output::put(out, at, b"SmsMessage");
-    quoted(out, e, SmsMessage::sender_part(line))
-}
-
+// The reader's name, and what it read.
 fn response(out: &mut [u8], at: usize, line: &[u8], code: ResponseCode) -> usize {
+    let kind = code.kind();
+    let names =
+        b"GenericOk,SimError,WritePrompt,CloseOk,Iccid,SignalQuality,SystemInfo,OperatorInfo,NetworkTime,DownloadInfo,Imei,SmsMessageFormat,SmsMessage";
+    let e = output::put(out, at, reader::nth_field(names, kind.place() as usize));
     match code {
-        ResponseCode::Ok(_) => output::put(out, at, b"GenericOk"),
-        ResponseCode::Error(error) => sim_error(out, at, error),
-        ResponseCode::WritePrompt(_) => output::put(out, at, b"WritePrompt"),
-        ResponseCode::CloseOk(close) => close_ok(out, at, close.connection),
-        ResponseCode::Iccid(id) => iccid(out, at, id),
-        ResponseCode::SignalQuality(q) => signal_quality(out, at, q),
-        ResponseCode::SystemInfo(info) => system_info(out, at, info),
-        ResponseCode::OperatorInfo(info) => operator_info(out, at, line, info),
-        ResponseCode::NetworkTime(time) => network_time(out, at, line, time),
-        ResponseCode::DownloadInfo(info) => download_info(out, at, info),
-        ResponseCode::Imei(_) => imei(out, at, line),
-        ResponseCode::SmsMessageFormat(format) => sms_message_format(out, at, format),
-        ResponseCode::SmsMessage(_) => sms_message(out, at, line),
+        ResponseCode::Ok(_) => e,
+        ResponseCode::Error(error) => sim_error(out, e, error),
+        ResponseCode::WritePrompt(_) => e,
+        ResponseCode::CloseOk(close) => number(out, e, close.connection),
+        ResponseCode::Iccid(id) => iccid(out, e, id),
+        ResponseCode::SignalQuality(q) => signal_quality(out, e, q),
+        ResponseCode::SystemInfo(info) => system_info(out, e, info),
+        ResponseCode::OperatorInfo(info) => operator_info(out, e, line, info),
+        ResponseCode::NetworkTime(time) => network_time(out, e, line, time),
+        ResponseCode::DownloadInfo(info) => download_info(out, e, info),
+        ResponseCode::Imei(id) => placed(out, e, line, id.imei),
+        ResponseCode::SmsMessageFormat(format) => word(out, e, b"Pdu,Text", message_format(format)),
+        ResponseCode::SmsMessage(message) => placed(out, e, line, message.sender),
     }
 }
 
-fn status(out: &mut [u8], at: usize, s: RegistrationStatus) -> usize {
+fn status(s: RegistrationStatus) -> usize {
     match s {
-        RegistrationStatus::NotRegistered => output::put(
-            out,
-            at,
-            b"NetworkRegistration NotRegistered",
-        ),
-        RegistrationStatus::RegisteredHome => output::put(
-            out,
-            at,
-            b"NetworkRegistration RegisteredHome",
-        ),
-        RegistrationStatus::Searching => output::put(out, at, b"NetworkRegistration Searching"),
-        RegistrationStatus::RegistrationDenied => output::put(
-            out,
-            at,
-            b"NetworkRegistration RegistrationDenied",
-        ),
-        RegistrationStatus::Unknown => output::put(out, at, b"NetworkRegistration Unknown"),
-        RegistrationStatus::RegisteredRoaming => output::put(
-            out,
-            at,
-            b"NetworkRegistration RegisteredRoaming",
-        ),
+        RegistrationStatus::NotRegistered => 0,
+        RegistrationStatus::RegisteredHome => 1,
+        RegistrationStatus::Searching => 2,
+        RegistrationStatus::RegistrationDenied => 3,
+        RegistrationStatus::Unknown => 4,
+        RegistrationStatus::RegisteredRoaming => 5,
     }
 }
 
@@ -297,9 +294,15 @@ fn registration(out: &mut [u8], at: usize, r: NetworkRegistration) -> usize {
     let registered = r.status;
     let lac = r.lac;
     let ci = r.ci;
-    let a = status(out, at, registered);
-    let b = option_u16(out, a, lac);
-    option_u32(out, b, ci)
+    let a = output::put(out, at, b"NetworkRegistration");
+    let b = word(
+        out,
+        a,
+        b"NotRegistered,RegisteredHome,Searching,RegistrationDenied,Unknown,RegisteredRoaming",
+        status(registered),
+    );
+    let c = option_u16(out, b, lac);
+    option_u32(out, c, ci)
 }
 
 fn day(out: &mut [u8], at: usize, d: DateTime) -> usize {
@@ -366,14 +369,6 @@ fn refused(out: &mut [u8], at: usize, k: u8) -> usize {
     number(out, e, k as u64)
 }
 
-// What is read where the responses refused the line with j.
-fn not_response(out: &mut [u8], at: usize, line: &[u8], j: u8) -> usize {
-    match Urc::from_line(line) {
-        UrcAnswer::Value(u) => urc(out, at, u),
-        UrcAnswer::Refused(k) => refused(out, at, line::worse_of(j, k)),
-    }
-}
-
 // The line without a CR at its end.
 fn without_cr(line: &[u8]) -> &[u8] {
     let n = line.len();
@@ -388,9 +383,11 @@ fn without_cr(line: &[u8]) -> &[u8] {
 
 fn answer(out: &mut [u8], at: usize, whole: &[u8]) -> usize {
     let line = without_cr(whole);
-    match ResponseCode::from_line(line) {
-        ResponseCodeAnswer::Value(code) => response(out, at, line, code),
-        ResponseCodeAnswer::Refused(j) => not_response(out, at, line, j),
+    let said = Line::from_line(line);
+    match said {
+        Line::Response(code) => response(out, at, line, code),
+        Line::Unsolicited(u) => urc(out, at, u),
+        Line::Refused(k) => refused(out, at, k),
     }
 }
 

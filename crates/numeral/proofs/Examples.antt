@@ -16,11 +16,6 @@ Reads s x = floatOf (bytes s) ≡ some x
 abbrev Refuses : String → Type 0
 Refuses s = floatOf (bytes s) ≡ none
 
--- document 01, "Lines to prove and to run", 13: half way from 16777218 to 16777220, which is 4194305 * 2 ^ 2, and whose significand, 8388610, is even
-pub line-13 : Reads "16777219" (fin false 4194305 (pos 2))
-unfolding floatOf decimalOf behindSign unsigned startsWith digitsOf digitValue valueOf round
-line-13 = refl
-
 -- half way from 16777216, whose significand is even, to 16777218; and just past half way, by the last of fifteen digits
 ties : Reads "16777217" (fin false 1 (pos 24)) × Reads "-16777217.0000000" (fin true 1 (pos 24)) × Reads "16777217.0000001" (fin false 8388609 (pos 1))
 unfolding floatOf decimalOf behindSign unsigned startsWith digitsOf digitValue valueOf round

@@ -1,10 +1,9 @@
 pub mod Closest
+pub mod DigitLoop
 pub mod Digits
 pub mod Examples
+pub mod NumeralGrammar
 pub mod One
 pub mod Pattern
-pub mod Rest
 pub mod Rounding
-pub mod Said
-pub mod Sole
-pub mod Table
+pub mod UniqueNearest

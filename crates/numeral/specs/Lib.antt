@@ -3,4 +3,4 @@ pub mod Grammar
 pub mod Nearest
 pub mod Numeral
 pub mod Place
-pub mod Told
+pub mod says

@@ -4,10 +4,11 @@ use mathlib.Core.Path.{_≡_}
 use mathlib.Core.Logic.{_⊎_}
 use mathlib.Core.Bool.{Bool}
 use mathlib.Core.List.{List}
-use mathlib.Core.Option.{Option, none, some}
 use Prim.Native.Nat.{ℕ, _+_, _-_, _*_, _%_, _^_, _≤_, _<_}
 use lib.Ieee.{Float}
 use lib.Ieee.Exact.{HasValue}
+use Rattle.text.specs.Reading as R
+use Rattle.text.specs.Reading.{Reading, read}
 use Rattle.numeral.specs.Numeral.{Decimal}
 use Rattle.numeral.specs.Grammar.{Says}
 
@@ -26,7 +27,7 @@ pub record Nearest (s : Bool) (m D : ℕ) (x : Float) : Type 0 where
   pub nearest : (p j : ℕ) → p < 2 ^ 24 → apart (m * 2 ^ 149) (sig * 2 ^ drop * D) ≤ apart (m * 2 ^ 149) (p * 2 ^ j * D)
   pub even : (p j : ℕ) → p < 2 ^ 24 → (p * 2 ^ j ≡ sig * 2 ^ drop → ⊥) → apart (m * 2 ^ 149) (p * 2 ^ j * D) ≡ apart (m * 2 ^ 149) (sig * 2 ^ drop * D) → sig % 2 ≡ 0
 
--- what is answered to the text s: the f32 nearest to the decimal that it says, or none where it says none
-pub data Answers (s : List ℕ) : Option Float → Type 0 where
-  value : {d : Decimal} {x : Float} → Says s d → Nearest (d .negative) (d .number) (10 ^ d .places) x → Answers s (some x)
-  refused : ((d : Decimal) → Says s d → ⊥) → Answers s none
+-- what is answered to the text s: the f32 nearest to the decimal that it says, or 3 where it says none
+pub data Answers (s : List ℕ) : Reading Float → Type 0 where
+  value : {d : Decimal} {x : Float} → Says s d → Nearest (d .negative) (d .number) (10 ^ d .places) x → Answers s (read x)
+  refused : ((d : Decimal) → Says s d → ⊥) → Answers s (R.refused 3)

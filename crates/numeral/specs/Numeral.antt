@@ -9,6 +9,7 @@ use lib.Ieee.{Float, binary32, round}
 use Rattle.text.specs.Bytes.{bytes, within, startsWith}
 use Rattle.text.specs.Part.{before, after}
 use Rattle.text.specs.Number.{digitsOf, valueOf}
+use Rattle.text.specs.Reading.{Reading, read, need}
 
 -- an exact decimal: number / 10 ^ places, or its negation
 pub record Decimal : Type 0 where
@@ -43,6 +44,10 @@ abbrev pub rounded : Option Decimal → Option Float
 rounded none = none
 rounded (some d) = some (round binary32 (d .negative) (d .number) (10 ^ d .places))
 
--- the f32 that a text is read as; none where it is no numeral, which a line's reader refuses with 3
+-- the f32 that a text is read as; none where it is no numeral
 unfoldable pub floatOf : List ℕ → Option Float
 floatOf s = rounded (decimalOf s)
+
+-- which is refused with 3
+unfoldable pub numeralText : List ℕ → Reading Float
+numeralText s = need (floatOf s) read

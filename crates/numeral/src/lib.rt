@@ -7,10 +7,9 @@ ghost use lib.Ieee as Ieee;
 ghost use lib.Ieee.{binary32};
 ghost use lib.Ieee.Nearest.{closest};
 ghost use lib.ListN.{length, drop};
-ghost use Rattle.numeral.specs.Numeral.{behindSign, decimalOf, floatOf};
-ghost use Rattle.numeral.specs.Nearest.{Answers};
+ghost use Rattle.numeral.specs.Numeral.{behindSign, decimalOf};
 ghost use Rattle.numeral.specs.Place.{Placed};
-ghost use Rattle.numeral.specs.Told.{told, toldDecimal};
+ghost use Rattle.numeral.specs.says.Numeral.{scannedSays, NumeralKeeps};
 
 pub mod bits;
 
@@ -117,7 +116,7 @@ enum Scanned {
 // The digits of s from `start` on, behind the sign.
 fn digits_from(s: &[u8], start: usize, negative: bool) -> Scanned
     requires { ⌜ start ≤ length (now s) ⌝ }
-    ensures { λ r. ⌜ toldDecimal r ≡ behindSign negative (drop start (now (s .entry))) ⌝ }
+    ensures { λ r. ⌜ scannedSays r ≡ behindSign negative (drop start (now (s .entry))) ⌝ }
 {
     let mut m: u64 = 0;
     let mut count: usize = 0;
@@ -159,7 +158,7 @@ fn digits_from(s: &[u8], start: usize, negative: bool) -> Scanned
 
 // The decimal that s says.
 fn scan(s: &[u8]) -> Scanned
-    ensures { λ r. ⌜ toldDecimal r ≡ decimalOf (now (s .entry)) ⌝ }
+    ensures { λ r. ⌜ scannedSays r ≡ decimalOf (now (s .entry)) ⌝ }
 {
     if s.len() == 0 {
         return Scanned::Not;
@@ -181,8 +180,7 @@ pub enum Numeral {
 
 // The f32 nearest to the decimal that s says, a tie going to the even significand.
 pub fn read(s: &[u8]) -> Numeral
-    ensures exact { λ r. ⌜ told r ≡ floatOf (now (s .entry)) ⌝ }
-    ensures nearest { λ r. ⌜ Answers (now (s .entry)) (told r) ⌝ }
+    ensures { λ r. ⌜ NumeralKeeps (now (s .entry)) r ⌝ }
 {
     match scan(s) {
         Scanned::Exact {

@@ -10,8 +10,9 @@ use desk::FedAnswer;
 use libc::STDIN_FILENO;
 use text::part;
 ghost use mathlib.Core.Path.{_≡_};
-ghost use Rattle.desk.specs.Desk.{fed};
-ghost use Rattle.desk.specs.Says.{stateOf, fedSays};
+ghost use Rattle.desk.specs.Desk.{afterBytes};
+ghost use Rattle.desk.specs.Says.{stateOf};
+ghost use Rattle.desk.specs.Keeps.{FeedKeeps};
 
 // A line of output: a word, and the bytes behind it.
 fn print(word: &[u8], rest: &[u8]) {
@@ -46,7 +47,7 @@ fn say(event: Event, line: &[u8]) {
 
 // The desk is held in a local, lent to the call that alters it, and handed on.
 fn lend(desk: Desk, chunk: &[u8], text: &mut [u8]) -> Fed
-    ensures { λ r. ⌜ fedSays r (now (text .exit)) ≡ fed (stateOf desk) (now (chunk .entry)) (now (text .entry)) ⌝ }
+    ensures { λ r. ⌜ FeedKeeps desk (now (chunk .entry)) (now (text .entry)) r (now (text .exit)) ⌝ }
 {
     let mut d = desk;
     let answer = d.feed_lent(chunk, text);
@@ -56,8 +57,10 @@ fn lend(desk: Desk, chunk: &[u8], text: &mut [u8]) -> Fed
     }
 }
 
-// Feeds a chunk, event by event.
-fn drain(desk: Desk, chunk: &[u8]) -> Desk {
+// Feeds a chunk, event by event, until all its bytes are taken.
+fn drain(desk: Desk, chunk: &[u8]) -> Desk
+    ensures { λ r. ⌜ stateOf r ≡ afterBytes (stateOf desk) (now (chunk .entry)) ⌝ }
+{
     let mut d = desk;
     let mut text = [0u8; 256];
     let mut at = 0;
@@ -66,17 +69,19 @@ fn drain(desk: Desk, chunk: &[u8]) -> Desk {
         let after = fed.desk;
         d = after;
         let answer = fed.answer;
-        let FedAnswer::Heard { event, taken, size } = answer else {
-            return d;
-        };
-        say(event, part::part(&text, 0, size));
-        if taken == 0 {
-            return d;
+        match answer {
+            // never: text has room for every line
+            FedAnswer::Refused(_) => {
+                return d;
+            }
+            FedAnswer::Quiet(_) => {
+                return d;
+            }
+            FedAnswer::Heard { event, taken, size } => {
+                say(event, part::part(&text, 0, size));
+                at += taken;
+            }
         }
-        if chunk.len() - at < taken {
-            return d;
-        }
-        at += taken;
     }
     d
 }

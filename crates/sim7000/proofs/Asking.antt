@@ -1,17 +1,14 @@
 -- Laws of the requests by number, of a command that is written, and of an open on lent parts.
 use Prim.Native.Nat.{ℕ, _≤_}
-use mathlib.Core.Path.{_≡_, refl, sym, ap, _∙_}
+use mathlib.Core.Path.{_≡_, sym, ap, _∙_}
 use mathlib.Core.List.{List}
 use mathlib.Core.Option.{Option, none, some}
 use lib.ListN.{length, List·getD-eq-default}
 use Rattle.text.specs.Reading.{Reading, read, refused, mapped}
-use Rattle.at_command.specs.Kind.{Kind}
-use Rattle.at_command.specs.Request.{Asked, answersTo, encodeReading, written}
-use Rattle.at_command.specs.says.Request.{asked, awaitedBy}
-use Rattle.at_command.specs.declared.request.Request.{Request}
-use Rattle.at_command.specs.declared.request.Request.the-variants as R
-use Rattle.desk.specs.Desk.{State, Opened, allowed, openedWith, opened}
-use Rattle.desk.proofs.Basics.{never}
+use Rattle.at_command.specs.Request.{Asked, encodeReading, written}
+use Rattle.desk.specs.Desk.{Opened}
+use Rattle.text.proofs.Tests.{never}
+use Rattle.desk.proofs.Unchanged.{opened-stays}
 use Rattle.sim7000.specs.Parts.{numbersOf}
 use Rattle.sim7000.specs.Command.{requests, askedBy, writeLeft, writeLeaves, writes, openLeft, openedOn, opens}
 
@@ -20,22 +17,6 @@ use Rattle.sim7000.specs.Command.{requests, askedBy, writeLeft, writeLea
 pub asked-none : (request number code : ℕ) (first second : List ℕ) → 13 ≤ request → none ≡ askedBy request number code first second
 unfolding askedBy
 asked-none request number code first second h = sym (List·getD-eq-default (requests number code first second) none h)
-
--- the answers that a request awaits do not depend on its texts
-pub answers-same : (q : Request) (first second : List ℕ) → answersTo (asked q first second) ≡ awaitedBy q
-answers-same R.GetSignalQuality first second = refl
-answers-same R.ShowIccid first second = refl
-answers-same R.GetImei first second = refl
-answers-same R.GetOperatorInfo first second = refl
-answers-same R.SetManualOperator first second = refl
-answers-same R.SetAutomaticOperator first second = refl
-answers-same R.GetSystemInfo first second = refl
-answers-same (R.SynchronizeNetworkTime timezone cid) first second = refl
-answers-same R.Execute first second = refl
-answers-same R.DownloadToFileSystem first second = refl
-answers-same R.GetSmsMessageFormat first second = refl
-answers-same (R.SetSmsMessageFormat f) first second = refl
-answers-same (R.ReadSms index) first second = refl
 
 -- ---- write
 
@@ -63,15 +44,6 @@ module _ (o : Option Asked) (out : List ℕ) (size : ℕ) where
 
 -- ---- open
 
--- an open that is refused leaves the output buffer
-with-stays : (s : State) (awaited : List Kind) (w : Reading (List ℕ)) (out : List ℕ) {k : ℕ} → openedWith s awaited w out .answer ≡ refused k → openedWith s awaited w out .out ≡ out
-with-stays s awaited (read command) out e = never (cc)
-with-stays s awaited (refused j) out e = refl
-
-pub open-stays : (s : State) (awaited : List Kind) (w : Reading (List ℕ)) (out : List ℕ) {k : ℕ} → opened s awaited w out .answer ≡ refused k → opened s awaited w out .out ≡ out
-unfolding opened
-open-stays s awaited w out e = with-stays s awaited (allowed s w) out e
-
 module _ (o : Option Asked) (line state out : List ℕ) (size : ℕ) where
   pub opens-none : none ≡ o → openLeft 3 state out size ≡ opens o line state out size
   unfolding opens
@@ -82,7 +54,7 @@ module _ (o : Option Asked) (line state out : List ℕ) (size : ℕ) where
     unfolding opens
     opens-refused {k} e =
         let f : openedOn a line state out .answer ≡ refused k = ap (λ (y : Opened). y .answer) (sym made) ∙ e in
-        let g : x .out ≡ out = ap (λ (y : Opened). y .out) made ∙ open-stays _ _ _ out f in
+        let g : x .out ≡ out = ap (λ (y : Opened). y .out) made ∙ opened-stays _ _ _ out f .1 in
         rw (sym is, f, g)
 
     pub opens-size : {n : ℕ} → x .answer ≡ read n → openLeft 0 (numbersOf (x .state)) (x .out) n ≡ opens o line state out size

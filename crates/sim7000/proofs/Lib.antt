@@ -1,5 +1,6 @@
 pub mod Commands
-pub mod Saying
+pub mod OneLine
+pub mod Rows
 pub mod Feeding
 pub mod Asking
 pub mod One

@@ -1,5 +1,6 @@
 -- The requests by number, and what a call that writes a command leaves (document 01, "Refusal numbers").
 use Prim.Native.Nat.{ℕ}
+use mathlib.Core.Path.{_≡_}
 use mathlib.Core.Bool.{cond}
 use mathlib.Core.List.{List, [], _∷_}
 use mathlib.Core.Option.{Option, none, some}
@@ -7,6 +8,7 @@ use lib.Dec.{leb}
 use lib.ListN.{length, getD}
 use Rattle.text.specs.Reading.{Reading, read, refused}
 use Rattle.at_command.specs.Request.{Asked, getSignalQuality, showIccid, getImei, getOperatorInfo, setManualOperator, setAutomaticOperator, getSystemInfo, synchronizeNetworkTime, execute, downloadToFileSystem, getSmsMessageFormat, setSmsMessageFormat, readSms, answersTo, encodeReading, written}
+use Rattle.desk.specs.Judge.{awaiting}
 use Rattle.desk.specs.Desk.{Opened, opened}
 use Rattle.sim7000.specs.Parts.{deskIn, numbersOf}
 
@@ -58,6 +60,10 @@ unfoldable pub writes : Option Asked → List ℕ → ℕ → WriteLeft
 writes none out size = writeLeft 3 out size
 writes (some a) out size = writeLeaves (encodeReading a (length out)) out size
 
+-- the contract of `sim7000_write_command`; a primed name is what is lent, as it is after the call
+abbrev pub ExportWriteKeeps : ℕ → ℕ → ℕ → List ℕ → List ℕ → List ℕ → ℕ → ℕ → List ℕ → ℕ → Type 0
+ExportWriteKeeps request number code first second out size r out′ size′ = writeLeft r out′ size′ ≡ writes (askedBy request number code first second) out size
+
 -- ---- open
 
 -- the answer of `sim7000_open`, and what it leaves in each lent part
@@ -76,9 +82,14 @@ openLeaves (refused k) o state out size = openLeft k state out size
 
 -- the desk's own open, on the desk that the lent parts are
 abbrev pub openedOn : Asked → List ℕ → List ℕ → List ℕ → Opened
-openedOn a line state out = opened (deskIn line state) (answersTo a) (encodeReading a (length out)) out
+openedOn a line state out = opened (deskIn line state) (awaiting (answersTo a)) (encodeReading a (length out)) out
 
 -- 3 where there is no such request, else what the desk says; a refusal leaves all as it was
 unfoldable pub opens : Option Asked → List ℕ → List ℕ → List ℕ → ℕ → OpenLeft
 opens none line state out size = openLeft 3 state out size
 opens (some a) line state out size = openLeaves (openedOn a line state out .answer) (openedOn a line state out) state out size
+
+-- the contract of `sim7000_open`: no open looks at the line's bytes, so it holds whatever they are
+abbrev pub ExportOpenKeeps : List ℕ → ℕ → ℕ → ℕ → List ℕ → List ℕ → List ℕ → ℕ → ℕ → List ℕ → List ℕ → ℕ → Type 0
+ExportOpenKeeps state request number code first second out size r state′ out′ size′ =
+    (line : List ℕ) → length line ≡ 257 → openLeft r state′ out′ size′ ≡ opens (askedBy request number code first second) line state out size

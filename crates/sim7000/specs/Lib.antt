@@ -1,6 +1,6 @@
-pub mod Said
+pub mod Reader
 pub mod Values
 pub mod Parts
 pub mod Command
 pub mod says
-pub mod Demand
+pub mod Calls

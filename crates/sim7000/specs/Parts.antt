@@ -2,13 +2,14 @@
 -- the bytes held, and above 257 the line is being dropped; the second is the command. Every number has a meaning, so no state is ill-formed, and
 -- zeros are a new desk.
 use Prim.Native.Nat.{ℕ, _+_, _-_, _*_, _/_, _%_}
+use mathlib.Core.Path.{_≡_}
 use mathlib.Core.Bool.{cond}
 use mathlib.Core.List.{List, [], _∷_}
 use lib.Dec.{ltb, eqb}
 use lib.ListN.{getD}
 use Rattle.text.specs.Reading.{Reading, read, refused}
 use Rattle.at_command.specs.Kind.{Kind, placeOf, kindAt}
-use Rattle.desk.specs.Judge.{Event, Overlong, Stray, Failed, Taken, Done, Short, Unsolicited}
+use Rattle.desk.specs.Judge.{eventNumber, strayNumber, awaiting}
 use Rattle.desk.specs.Desk.{State, resetState, Heard, quiet, event, Fed, fed}
 
 -- ---- the command
@@ -29,34 +30,20 @@ numberOf (a ∷ b ∷ ks) = 14 + 13 * placeOf a + placeOf b
 -- ---- the desk
 
 abbrev pub deskIn : List ℕ → List ℕ → State
-deskIn line state = record { tray = record { bytes = line; len = getD state 0 0 }; awaited = awaitedIn (getD state 1 0) }
+deskIn line state = record { wire = record { bytes = line; len = getD state 0 0 }; command = awaiting (awaitedIn (getD state 1 0)) }
 
 abbrev pub numbersOf : State → List ℕ
-numbersOf s = s .tray .len ∷ numberOf (s .awaited) ∷ []
+numbersOf s = s .wire .len ∷ numberOf (s .command .awaited) ∷ []
 
 -- what `sim7000_reset` leaves in the two numbers, whatever the line's bytes are
 abbrev pub resets : List ℕ → List ℕ
 resets state = numbersOf (resetState (deskIn [] state))
 
+-- the contract of `sim7000_reset`; a primed name is what is lent, as it is after the call
+abbrev pub ExportResetKeeps : List ℕ → List ℕ → Type 0
+ExportResetKeeps state state′ = state′ ≡ resets state
+
 -- ---- feed
-
-abbrev pub eventNumber : Event → ℕ
-eventNumber Unsolicited = 1
-eventNumber Taken = 2
-eventNumber Done = 3
-eventNumber Short = 4
-eventNumber Failed = 5
-eventNumber (Stray n) = 6
-eventNumber Overlong = 7
-
-abbrev pub strayNumber : Event → ℕ
-strayNumber Unsolicited = 0
-strayNumber Taken = 0
-strayNumber Done = 0
-strayNumber Short = 0
-strayNumber Failed = 0
-strayNumber (Stray n) = n
-strayNumber Overlong = 0
 
 -- what is told: the event's number, 0 without one; the bytes taken; the size of the line in the text buffer; a stray's number
 abbrev pub toldOf : Heard → List ℕ
@@ -74,7 +61,7 @@ pub record FeedLeft : Type 0 where
 -- a refusal leaves all as it was before, where the answer stands for none
 abbrev pub leftBy : Reading Heard → Fed → FeedLeft → FeedLeft
 leftBy (refused k) f before = record { answer = k; line = before .line; state = before .state; text = before .text; told = before .told }
-leftBy (read h) f before = record { answer = 0; line = f .state .tray .bytes; state = numbersOf (f .state); text = f .text; told = toldOf h }
+leftBy (read h) f before = record { answer = 0; line = f .state .wire .bytes; state = numbersOf (f .state); text = f .text; told = toldOf h }
 
 abbrev pub feedLeft : ℕ → List ℕ → List ℕ → List ℕ → List ℕ → FeedLeft
 feedLeft answer line state text told = record { answer = answer; line = line; state = state; text = text; told = told }
@@ -83,3 +70,7 @@ feedLeft answer line state text told = record { answer = answer; line = line; st
 unfoldable pub feeds : List ℕ → List ℕ → List ℕ → List ℕ → List ℕ → FeedLeft
 feeds line state chunk text told =
     leftBy (fed (deskIn line state) chunk text .answer) (fed (deskIn line state) chunk text) (feedLeft 0 line state text told)
+
+-- the contract of `sim7000_feed`
+abbrev pub ExportFeedKeeps : List ℕ → List ℕ → List ℕ → List ℕ → List ℕ → ℕ → List ℕ → List ℕ → List ℕ → List ℕ → Type 0
+ExportFeedKeeps line state chunk text told r line′ state′ text′ told′ = feedLeft r line′ state′ text′ told′ ≡ feeds line state chunk text told

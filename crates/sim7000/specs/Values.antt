@@ -1,6 +1,7 @@
 -- The 20 numbers in which a line's values are handed over: the reader's number, its values, and zeros. A text is its start and its end in the line, a
 -- float its 32 bits, and what may be missing 1 and its values, or 0 and zeros.
 use Prim.Native.Nat.{ℕ}
+use mathlib.Core.Path.{_≡_}
 use mathlib.Core.List.{List, [], _∷_, _++_}
 use mathlib.Core.Option.{Option, none, some}
 use lib.Ieee.{Float}
@@ -14,7 +15,8 @@ use Rattle.at_command.specs.Response.{Response, ok, error, prompt, closeOk, icc
 use Rattle.unsolicited.specs.Date.{Date}
 use Rattle.unsolicited.specs.Gnss.{Fix, Report, notEnabled, noFix, fix}
 use Rattle.unsolicited.specs.Urc.{Unsolicited, gnss, registration}
-use Rattle.sim7000.specs.Said.{Said, response, unsolicited, readerOf}
+use Rattle.trial.specs.Said.{Said, response, unsolicited, lineSaid}
+use Rattle.sim7000.specs.Reader.{readerOf}
 
 -- ---- what may be missing
 
@@ -82,19 +84,19 @@ dateValues d = d .year ∷ d .month ∷ d .day ∷ d .hour ∷ d .minute ∷ d .
 
 abbrev pub fixValues : Fix → List ℕ
 fixValues f =
-    dateValues (f .date)
-    ++ bitsOf (f .position .latitude)
-    ∷ bitsOf (f .position .longitude)
-    ∷ bitsOf (f .position .altitude)
-    ∷ bitsOf (f .motion .speed)
-    ∷ bitsOf (f .motion .course)
-    ∷ bitsOf (f .dilution .hdop)
-    ∷ bitsOf (f .dilution .pdop)
-    ∷ bitsOf (f .dilution .vdop)
-    ∷ f .satellites .gpsInView
-    ∷ f .satellites .gnssUsed
-    ∷ f .satellites .glonassUsed
-    ∷ f .satellites .signalNoiseRatio
+    dateValues (f .dateTime)
+    ++ bitsOf (f .latitude)
+    ∷ bitsOf (f .longitude)
+    ∷ bitsOf (f .altitude)
+    ∷ bitsOf (f .speedOverGround)
+    ∷ bitsOf (f .courseOverGround)
+    ∷ bitsOf (f .hdop)
+    ∷ bitsOf (f .pdop)
+    ∷ bitsOf (f .vdop)
+    ∷ f .satGpsInView
+    ∷ f .satGnssUsed
+    ∷ f .satGlonassUsed
+    ∷ f .signalNoiseRatio
     ∷ []
 
 -- 0 not enabled, 1 no fix, 2 a fix
@@ -131,3 +133,6 @@ readLeft answer values = record { answer = answer; values = values }
 abbrev pub handedOver : Reading Said → List ℕ → ReadLeft
 handedOver (read s) before = readLeft 0 (lineValues s)
 handedOver (refused k) before = readLeft k before
+
+abbrev pub ReadLineKeeps : List ℕ → List ℕ → ℕ → List ℕ → Type 0
+ReadLineKeeps line before r after = readLeft r after ≡ handedOver (lineSaid line) before

@@ -1,11 +1,10 @@
 // What firmware links: the readers, the writers and the desk as C functions on numbers and lent bytes. `specs/` says what each number means.
 mod codes;
-mod missing;
 mod numbers;
+mod optional;
 mod parts;
 mod read;
 mod request;
-mod trial;
 mod values;
 
 pub use crate::parts::sim7000_feed;

@@ -1,13 +1,13 @@
-// The numbers that stand for the desk's command and its events.
+// The numbers that stand for the desk's command.
 use at_command::request::ResponseKind;
 use desk::Command;
-use desk::Event;
 ghost use mathlib.Core.Path.{_≡_};
 ghost use Prim.Native.Nat.{_<_};
 ghost use Rattle.at_command.specs.says.Request.{kindSays};
 ghost use Rattle.at_command.specs.Kind.{kindAt};
-ghost use Rattle.desk.specs.Says.{awaitedOf, eventSays};
-ghost use Rattle.sim7000.specs.Parts.{awaitedIn, numberOf, eventNumber, strayNumber};
+ghost use Rattle.desk.specs.Judge.{awaiting};
+ghost use Rattle.desk.specs.Says.{commandSays};
+ghost use Rattle.sim7000.specs.Parts.{awaitedIn, numberOf};
 
 fn kind_at(k: u64) -> ResponseKind
     requires { ⌜ k < 13 ⌝ }
@@ -31,7 +31,7 @@ fn kind_at(k: u64) -> ResponseKind
 }
 
 pub(crate) fn command_in(n: u64) -> Command
-    ensures { λ r. ⌜ awaitedOf r ≡ awaitedIn n ⌝ }
+    ensures { λ r. ⌜ commandSays r ≡ awaiting (awaitedIn n) ⌝ }
 {
     if n == 0 {
         return Command::Idle;
@@ -47,40 +47,12 @@ pub(crate) fn command_in(n: u64) -> Command
 }
 
 pub(crate) fn number_of(command: Command) -> u64
-    ensures { λ r. ⌜ r ≡ numberOf (awaitedOf command) ⌝ }
+    ensures { λ r. ⌜ r ≡ numberOf (commandSays command .awaited) ⌝ }
 {
     match command {
         Command::Idle => 0,
         Command::One(a) => 1 + a.place() as u64,
         Command::Two(a, b) => 14 + 13 * a.place() as u64 + b.place() as u64,
-    }
-}
-
-pub(crate) fn event_number(event: Event) -> u64
-    ensures { λ r. ⌜ r ≡ eventNumber (eventSays event) ⌝ }
-{
-    match event {
-        Event::Unsolicited => 1,
-        Event::Taken => 2,
-        Event::Done => 3,
-        Event::Short => 4,
-        Event::Failed => 5,
-        Event::Stray(_) => 6,
-        Event::Overlong => 7,
-    }
-}
-
-pub(crate) fn stray_number(event: Event) -> u64
-    ensures { λ r. ⌜ r ≡ strayNumber (eventSays event) ⌝ }
-{
-    match event {
-        Event::Unsolicited => 0,
-        Event::Taken => 0,
-        Event::Done => 0,
-        Event::Short => 0,
-        Event::Failed => 0,
-        Event::Stray(n) => n as u64,
-        Event::Overlong => 0,
     }
 }
 

@@ -4,17 +4,13 @@ use crate::request;
 use crate::request::Wanted;
 use at_command::request::Encoded;
 use desk::FedAnswer;
-ghost use mathlib.Core.Path.{_≡_};
-ghost use mathlib.Core.List.{List};
-ghost use Prim.Native.Nat.{ℕ};
-ghost use lib.ListN.{length};
-ghost use Rattle.sim7000.specs.Command.{askedBy, openLeft, opens};
-ghost use Rattle.sim7000.specs.Parts.{resets, feeds, feedLeft};
+ghost use Rattle.sim7000.specs.Command.{ExportOpenKeeps};
+ghost use Rattle.sim7000.specs.Parts.{ExportResetKeeps, ExportFeedKeeps};
 
 // Zeros are the state after it: idle, and nothing held.
 #[no_mangle]
 pub extern "C" fn sim7000_reset(state: &mut [u64; 2])
-    ensures { λ _. ⌜ now (state .exit) ≡ resets (now (state .entry)) ⌝ }
+    ensures { λ _. ⌜ ExportResetKeeps (now (state .entry)) (now (state .exit)) ⌝ }
 {
     *state = [0, 0];
 }
@@ -31,7 +27,7 @@ pub extern "C" fn sim7000_open(
     out: &mut [u8],
     size: &mut u64,
 ) -> u8
-    ensures { λ r. ⌜ ((line : List ℕ) → length line ≡ 257 → openLeft r (now (state .exit)) (now (out .exit)) (now (size .exit)) ≡ opens (askedBy request number code (now (first .entry)) (now (second .entry))) line (now (state .entry)) (now (out .entry)) (now (size .entry))) ⌝ }
+    ensures { λ r. ⌜ ExportOpenKeeps (now (state .entry)) request number code (now (first .entry)) (now (second .entry)) (now (out .entry)) (now (size .entry)) r (now (state .exit)) (now (out .exit)) (now (size .exit)) ⌝ }
 {
     let wanted = request::request_in(request, number, code);
     match wanted {
@@ -64,7 +60,7 @@ pub extern "C" fn sim7000_feed(
     text: &mut [u8],
     told: &mut [u64; 4],
 ) -> u8
-    ensures { λ r. ⌜ feedLeft r (now (line .exit)) (now (state .exit)) (now (text .exit)) (now (told .exit)) ≡ feeds (now (line .entry)) (now (state .entry)) (now (chunk .entry)) (now (text .entry)) (now (told .entry)) ⌝ }
+    ensures { λ r. ⌜ ExportFeedKeeps (now (line .entry)) (now (state .entry)) (now (chunk .entry)) (now (text .entry)) (now (told .entry)) r (now (line .exit)) (now (state .exit)) (now (text .exit)) (now (told .exit)) ⌝ }
 {
     let len = numbers::size_in(state[0]);
     let command = numbers::command_in(state[1]);
@@ -81,8 +77,8 @@ pub extern "C" fn sim7000_feed(
             0
         }
         FedAnswer::Heard { event, taken, size } => {
-            let kind = numbers::event_number(event);
-            let stray = numbers::stray_number(event);
+            let kind = event.number();
+            let stray = event.stray();
             *state = [held, awaited];
             *told = [
                 kind,

@@ -1,12 +1,11 @@
 // A line is read: which reader takes it, and what it says.
-use crate::trial;
-use crate::trial::Line;
 use crate::values;
+use trial::Line;
 use unsolicited::Urc;
 ghost use mathlib.Core.Path.{_≡_};
 ghost use Rattle.unsolicited.specs.says.Urc.{urcSays};
-ghost use Rattle.sim7000.specs.Said.{lineSaid, urcReader, sortNumber};
-ghost use Rattle.sim7000.specs.Values.{readLeft, handedOver};
+ghost use Rattle.sim7000.specs.Reader.{urcReader, SortLineKeeps};
+ghost use Rattle.sim7000.specs.Values.{ReadLineKeeps};
 
 fn urc_reader(urc: Urc) -> u8
     ensures { λ r. ⌜ r ≡ urcReader (urcSays urc) ⌝ }
@@ -20,9 +19,9 @@ fn urc_reader(urc: Urc) -> u8
 // 0, and the reader's number and values in `values`; or the refusal, and `values` as it was.
 #[no_mangle]
 pub extern "C" fn sim7000_read_line(line: &[u8], values: &mut [u64; 20]) -> u8
-    ensures { λ r. ⌜ readLeft r (now (values .exit)) ≡ handedOver (lineSaid (now (line .entry))) (now (values .entry)) ⌝ }
+    ensures { λ r. ⌜ ReadLineKeeps (now (line .entry)) (now (values .entry)) r (now (values .exit)) ⌝ }
 {
-    let said = trial::line_of(line);
+    let said = Line::from_line(line);
     match said {
         Line::Response(code) => {
             *values = values::response_values(code);
@@ -39,9 +38,9 @@ pub extern "C" fn sim7000_read_line(line: &[u8], values: &mut [u64; 20]) -> u8
 // The number of the reader that takes the line, or 128 and the refusal.
 #[no_mangle]
 pub extern "C" fn sim7000_sort_line(line: &[u8]) -> u8
-    ensures { λ r. ⌜ r ≡ sortNumber (lineSaid (now (line .entry))) ⌝ }
+    ensures { λ r. ⌜ SortLineKeeps (now (line .entry)) r ⌝ }
 {
-    let said = trial::line_of(line);
+    let said = Line::from_line(line);
     match said {
         Line::Response(code) => {
             let kind = code.kind();

@@ -6,7 +6,7 @@ use at_command::request::Request;
 ghost use mathlib.Core.Path.{_≡_};
 ghost use mathlib.Core.List.{List};
 ghost use Prim.Native.Nat.{ℕ};
-ghost use Rattle.sim7000.specs.Command.{formatAsked, askedBy, writeLeft, writes};
+ghost use Rattle.sim7000.specs.Command.{formatAsked, askedBy, ExportWriteKeeps};
 ghost use Rattle.sim7000.specs.says.Wanted.{wantedSays};
 
 // The request that a number stands for.
@@ -62,7 +62,7 @@ pub extern "C" fn sim7000_write_command(
     out: &mut [u8],
     size: &mut u64,
 ) -> u8
-    ensures { λ r. ⌜ writeLeft r (now (out .exit)) (now (size .exit)) ≡ writes (askedBy request number code (now (first .entry)) (now (second .entry))) (now (out .entry)) (now (size .entry)) ⌝ }
+    ensures { λ r. ⌜ ExportWriteKeeps request number code (now (first .entry)) (now (second .entry)) (now (out .entry)) (now (size .entry)) r (now (out .exit)) (now (size .exit)) ⌝ }
 {
     let wanted = request_in(request, number, code);
     match wanted {

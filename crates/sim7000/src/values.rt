@@ -1,7 +1,7 @@
 // The 20 numbers of each reader: its number, its values, and zeros.
 use crate::codes;
-use crate::missing;
 use crate::numbers;
+use crate::optional;
 use at_command::ResponseCode;
 use at_command::ccid::Iccid;
 use at_command::cntp::NetworkTime;
@@ -11,6 +11,7 @@ use at_command::cpsi::SystemInfo;
 use at_command::csq::SignalQuality;
 use at_command::generic_response::SimError;
 use at_command::httptofs::DownloadInfo;
+use numeral::bits;
 use text::part::Place;
 use unsolicited::Urc;
 use unsolicited::network_registration::NetworkRegistration;
@@ -19,6 +20,7 @@ use unsolicited::ugnsinf::GnssReport;
 ghost use mathlib.Core.Path.{_≡_};
 ghost use mathlib.Core.List.{[], _∷_};
 ghost use Rattle.text.specs.says.Part.{placeSays};
+ghost use Rattle.numeral.specs.Bits.{bitsOf};
 ghost use Rattle.at_command.specs.Response.{error, iccid, signal, system, operator, time, download};
 ghost use Rattle.at_command.specs.says.Ccid.{cardSays};
 ghost use Rattle.at_command.specs.says.Cntp as Cntp;
@@ -33,8 +35,15 @@ ghost use Rattle.unsolicited.specs.Urc.{gnss, registration};
 ghost use Rattle.unsolicited.specs.says.Gnss.{reportSays, fixSays};
 ghost use Rattle.unsolicited.specs.says.Registration.{registrationSays};
 ghost use Rattle.unsolicited.specs.says.Urc.{urcSays};
-ghost use Rattle.sim7000.specs.Said.{response, unsolicited};
+ghost use Rattle.trial.specs.Said.{response, unsolicited};
 ghost use Rattle.sim7000.specs.Values.{padded, lineValues, nameIn, nameSpan};
+
+// The bits of a float, as one of the 20 numbers.
+pub(crate) fn float(x: f32) -> u64
+    ensures { λ r. ⌜ r ≡ bitsOf x ⌝ }
+{
+    bits::bits_of(x) as u64
+}
 
 // The reader's number and up to five values.
 fn row(reader: u64, a: u64, b: u64, c: u64, d: u64, e: u64) -> [u64; 20]
@@ -100,10 +109,10 @@ fn signal_values(quality: SignalQuality) -> [u64; 20]
 {
     let strength = quality.signal_strength;
     let level = quality.signal_quality;
-    let a = missing::has_level(strength);
-    let b = missing::level(strength);
-    let c = missing::has_level(level);
-    let d = missing::level(level);
+    let a = optional::has_level(strength);
+    let b = optional::level(strength);
+    let c = optional::has_level(level);
+    let d = optional::level(level);
     row(6, a, b, c, d, 0)
 }
 
@@ -157,9 +166,9 @@ fn time_values(net: NetworkTime) -> [u64; 20]
     let code = net.code;
     let place = net.time;
     let a = codes::time_code(code);
-    let b = missing::has_time(place);
-    let c = missing::time_start(place);
-    let d = missing::time_end(place);
+    let b = optional::has_time(place);
+    let c = optional::time_start(place);
+    let d = optional::time_end(place);
     row(9, a, b, c, d, 0)
 }
 
@@ -210,14 +219,14 @@ fn fix_values(found: GnssFix) -> [u64; 20]
         date.hour as u64,
         date.minute as u64,
         date.second as u64,
-        missing::float(found.latitude),
-        missing::float(found.longitude),
-        missing::float(found.altitude),
-        missing::float(found.speed_over_ground),
-        missing::float(found.course_over_ground),
-        missing::float(found.hdop),
-        missing::float(found.pdop),
-        missing::float(found.vdop),
+        float(found.latitude),
+        float(found.longitude),
+        float(found.altitude),
+        float(found.speed_over_ground),
+        float(found.course_over_ground),
+        float(found.hdop),
+        float(found.pdop),
+        float(found.vdop),
         numbers::wide(found.sat_gps_in_view),
         numbers::wide(found.sat_gnss_used),
         numbers::wide(found.sat_glonass_used),
@@ -231,8 +240,8 @@ fn report_values(report: GnssReport) -> [u64; 20]
     match report {
         GnssReport::NotEnabled => row(14, 0, 0, 0, 0, 0),
         GnssReport::NoFix { sat_gps_view } => {
-            let a = missing::has_u32(sat_gps_view);
-            let b = missing::u32_or_0(sat_gps_view);
+            let a = optional::has_u32(sat_gps_view);
+            let b = optional::u32_or_0(sat_gps_view);
             row(14, 1, a, b, 0, 0)
         }
         GnssReport::Fix(found) => fix_values(found),
@@ -246,10 +255,10 @@ fn registration_values(network: NetworkRegistration) -> [u64; 20]
     let lac = network.lac;
     let ci = network.ci;
     let s = codes::registration_status(status);
-    let a = missing::has_u16(lac);
-    let b = missing::u16_or_0(lac);
-    let c = missing::has_u32(ci);
-    let d = missing::u32_or_0(ci);
+    let a = optional::has_u16(lac);
+    let b = optional::u16_or_0(lac);
+    let c = optional::has_u32(ci);
+    let d = optional::u32_or_0(ci);
     row(15, s, a, b, c, d)
 }
 

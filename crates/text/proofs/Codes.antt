@@ -9,6 +9,8 @@ use native.Mathlib.Nat.{add-zero}
 use native.Mathlib.Omega.{arith}
 use lib.ListN.{length, take, drop, length-drop}
 use lib.Seq.{drop-drop, take-all}
+use lib.Dec.{T, eqb, eqb→eq}
+use borrow.Author.Needs.{needs}
 use Rattle.text.specs.Bytes.{same, indexOf}
 use Rattle.text.specs.Code.{Entry, codeIn, placeIn}
 use Rattle.text.specs.Field.{fields}
@@ -106,3 +108,17 @@ module _ (es : List Entry) (t : List ℕ) (k : ℕ) (place : k ≡ placeIn (text
 
   pub code-past : Others k (length es) → none ≡ codeIn es t
   code-past o = past es k (past-others k (length es) o) ∙ ap (numberAt es) place ∙ sym (code-place es t)
+
+-- an arm of a match on k, as `search codes` closes it: the number that its answer says is the table's at that place, which is computed
+abbrev has : Option ℕ → ℕ → Bool
+has none m = false
+has (some n) m = eqb n m
+
+holds : (o : Option ℕ) (m : ℕ) → T (has o m) → some m ≡ o
+holds none m h = absurd h
+holds (some n) m h = ap some (sym (eqb→eq n m h))
+
+pub code-arm : (es : List Entry) (t : List ℕ) (k n m : ℕ) → k ≡ placeIn (texts es) t → k ≡ n → T (has (numberAt es n) m) → some m ≡ codeIn es t
+code-arm es t k n m place e h = code-at es t k place n (some m) e (holds (numberAt es n) m h)
+
+pub ruleset codes = (needs, code-arm, code-past)

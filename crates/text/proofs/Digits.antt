@@ -5,14 +5,14 @@ use mathlib.Core.Bool.{Bool, true, false, cond, _&&_}
 use mathlib.Core.List.{List, _∷_}
 use mathlib.Core.Option.{Option, none, some}
 use Prim.Native.Nat.{ℕ, suc, _+_, _-_, _*_, _/_, _^_, _≤_, _<_}
-use native.Mathlib.Nat.{pow-zero, pow-succ', one-le-pow, mul-le-mul-left, mul-one, zero-mul, mul-assoc, add-mul, add-assoc, le-div-iff-mul-le, div-lt-iff-lt-mul}
+use native.Mathlib.Nat.{pow-zero, pow-succ', one-le-pow, mul-le-mul-left, mul-one, zero-mul, mul-assoc, add-mul, le-div-iff-mul-le, div-lt-iff-lt-mul}
 use native.Mathlib.Omega.{arith}
 use lib.ListN.{length, getD, drop}
 use lib.Dec.{leb, ltb}
 use borrow.Author.Tests.{lt-ltb, le-ltb, le-leb, lt-leb, ltb-false, leb-true}
 use Rattle.text.specs.Bytes.{within}
 use Rattle.text.specs.Number.{digitValue, below, prefixed, digitsOf, valueOf, upTo, worth, magnitude}
-use Rattle.text.proofs.Rest.{at-next, at-end}
+use Rattle.text.proofs.AtIndex.{at-next, at-end}
 
 -- `digit_value`
 module _ (x : ℕ) where
@@ -51,6 +51,26 @@ below-16 base r false e h = let k : 16 ≤ r = ltb-false _ _ e in rw (le-ltb r b
 digit-in : (base r x : ℕ) → base ≤ 16 → below 16 (some r) ≡ digitValue x → below base (digitValue x) ≡ below base (some r)
 digit-in base r x h e = rw (sym e) (below-16 base r (ltb r 16) refl h)
 
+-- the digits of base 10: which bytes they are, and what each is worth
+pub decimal-is : (x : ℕ) → 48 ≤ x → x ≤ 57 → below 10 (digitValue x) ≡ some (x - 48)
+decimal-is x h k = digit-in 10 (x - 48) x (omega arith) (digit-09 x h k) ∙ rw (lt-ltb (x - 48) 10 (omega arith))
+
+no-letter : (lo hi k x : ℕ) (o : Option ℕ) → k + 10 ≤ lo → below 10 o ≡ none → below 10 (cond (within lo hi x) (some (x - k)) o) ≡ none
+no-letter lo hi k x o h e = go (leb lo x) (leb x hi) (leb-true lo x)
+  where
+    go : (a b : Bool) → (a ≡ true → lo ≤ x) → below 10 (cond (a && b) (some (x - k)) o) ≡ none
+    go true true l = let u : 10 ≤ x - k = omega (arith, l refl) in rw (le-ltb (x - k) 10 u)
+    go true false l = e
+    go false b l = e
+
+pub decimal-not : (x : ℕ) → within 48 57 x ≡ false → below 10 (digitValue x) ≡ none
+unfolding digitValue
+decimal-not x e = rw e (no-letter 65 70 55 x _ (omega arith) (no-letter 97 102 87 x none (omega arith) refl))
+
+-- a digit d between those worth n and those worth v, of which there are so many that the next place is worth t
+pub one-more : (base n d t v : ℕ) → n * (base * t) + (d * t + v) ≡ (n * base + d) * t + v
+one-more base n d t v = let e : (n * base + d) * t ≡ n * (base * t) + d * t = add-mul (n * base) d t ∙ ap (λ (x : ℕ). x + d * t) (mul-assoc n base t) in omega arith
+
 -- digits worth n stand before these
 abbrev more : ℕ → ℕ → ℕ → Option (List ℕ) → Option ℕ
 more base max n none = none
@@ -62,8 +82,7 @@ rest base max n s = more base max n (digitsOf base s)
 more-turn : (base max n d : ℕ) (o : Option (List ℕ)) → more base max n (prefixed (some d) o) ≡ more base max (n * base + d) o
 unfolding valueOf
 more-turn base max n d none = refl
-more-turn base max n d (some ds) =
-    ap (upTo max) (simp (pow-succ', add-mul, mul-assoc, add-assoc))
+more-turn base max n d (some ds) = ap (upTo max) (rw pow-succ' (one-more base n d (base ^ length ds) (valueOf base ds)))
 
 more-past : (base max m : ℕ) (o : Option (List ℕ)) → 1 ≤ base → max < m → none ≡ more base max m o
 more-past base max m none h k = refl

@@ -13,8 +13,8 @@ use borrow.Author.Tests.{eqb-true, ltb-true, ltb-false, lt-ltb, le-ltb}
 use denote.Ref.{RefT, now}
 use Rattle.text.specs.Bytes.{indexOf, countOf, has}
 use Rattle.text.specs.Part.{IsPart, partOf, before, after}
-use Rattle.text.specs.Field.{fronted, fields, nth, from, joined, placeOf}
-use Rattle.text.proofs.Rest.{at-end}
+use Rattle.text.specs.Field.{fronted, fields, nth, placeOf}
+use Rattle.text.proofs.AtIndex.{at-end}
 use Rattle.text.proofs.Parts.{index-le, part-shift, from-start, part-as}
 
 -- the first field ends at the first separator, and the others are those of what follows it; a line without a separator is one field
@@ -71,10 +71,6 @@ module _ (b : ℕ) where
   nth-nil zero = refl
   nth-nil (suc n) = refl
 
-  from-nil : (n : ℕ) → [] ≡ joined b (from n [])
-  from-nil zero = refl
-  from-nil (suc n) = refl
-
   beyond : (s : List ℕ) (n : ℕ) → partOf s (length s + 1) (length s + 1 + indexOf b (drop (length s + 1) s)) ≡ nth n []
   unfolding partOf
   beyond s n = rw (at-end s (length s + 1) (omega arith), nth-nil n) (take-nil (length s + 1 + 0 - (length s + 1)))
@@ -95,24 +91,6 @@ module _ (b : ℕ) where
       split s
       (λ h. ap (span s) (place-has s n h) ∙ span-shift s (indexOf b s + 1) _ ∙ field-bytes n (after b s) ∙ ap (nth (suc n)) (sym (fields-has s h)))
       (λ h. rw (place-not s n h, fields-not s h) (beyond s n))
-
-  pub joined-fields : (s : List ℕ) → joined b (fields b s) ≡ s
-  joined-fields [] = refl
-  joined-fields (x ∷ s) = go (eqb x b) refl (fields b s) (joined-fields s) (fields-count s)
-    where
-      go : (t : Bool) → eqb x b ≡ t → (fs : List (List ℕ)) → joined b fs ≡ s → countOf b s + 1 ≡ length fs → joined b (cond t ([] ∷ fs) (fronted x fs)) ≡ x ∷ s
-      go t e [] h k = absurd (omega arith)
-      go true e (f ∷ fs) h k = rw (eqb-true x b e, h)
-      go false e (f ∷ []) h k = rw h
-      go false e (f ∷ g ∷ fs) h k = ap (λ (l : List ℕ). x ∷ l) h
-
-  -- what follows a field's place is the field and all behind it
-  pub rest-bytes : (n : ℕ) (s : List ℕ) → drop (placeOf n (fields b s)) s ≡ joined b (from n (fields b s))
-  rest-bytes zero s = sym (joined-fields s)
-  rest-bytes (suc n) s =
-      split s
-      (λ h. rw (place-has s n h, ← drop-drop, fields-has s h) (rest-bytes n (after b s)))
-      (λ h. rw (place-not s n h, fields-not s h, at-end s (length s + 1) (omega arith)) (from-nil n))
 
   -- a field lies in the line
   pub field-in : (n : ℕ) (s : List ℕ) → n < length (fields b s) → placeOf n (fields b s) + length (nth n (fields b s)) ≤ length s
@@ -154,16 +132,12 @@ module _ (s : List ℕ) (b n at k : ℕ) (inv : placeOf n (fields b s) ≡ at + 
 pub place-begin : (s : List ℕ) (b n : ℕ) → placeOf n (fields b s) ≡ 0 + placeOf (n - 0) (fields b (drop 0 s))
 place-begin s b n = rw (zero-add, sub-zero)
 
--- `field`, `field_and_rest` and `field_count`
+-- `field` and `field_count`
 pub field-part : (s t : RefT (List ℕ)) (b n at e : ℕ) → at ≡ placeOf n (fields b (now s)) → e ≡ at + indexOf b (drop at (now s)) → IsPart s t at (partOf (now s) at e)
     → IsPart s t (placeOf n (fields b (now s))) (nth n (fields b (now s)))
 field-part s t b n at e h q =
     part-as s t at _ _ _ h
     (ap (λ (x : ℕ). partOf (now s) at x) q ∙ ap (λ (x : ℕ). partOf (now s) x (x + indexOf b (drop x (now s)))) h ∙ field-bytes b n (now s))
-
-pub rest-part : (s t : RefT (List ℕ)) (b n at : ℕ) → at ≡ placeOf n (fields b (now s)) → IsPart s t at (drop at (now s))
-    → IsPart s t (placeOf n (fields b (now s))) (joined b (from n (fields b (now s))))
-rest-part s t b n at h = part-as s t at _ _ _ h (ap (λ (x : ℕ). drop x (now s)) h ∙ rest-bytes b n (now s))
 
 pub count-fields : (s : List ℕ) (b n : ℕ) → n ≡ countOf b s → n + 1 ≡ length (fields b s)
 count-fields s b n h = rw h (fields-count b s)

@@ -1,4 +1,4 @@
--- Where a byte or a text stands in a line: one law for each turn and each exit of the loops that look for it. Assumes nothing.
+-- Where a byte stands in a line, and what it begins and ends with: one law for each turn and each exit of the loops that look for it. Assumes nothing.
 use mathlib.Core.Path.{_≡_, refl, ap, sym, _∙_}
 use mathlib.Core.Bool.{Bool, true, false, cond, _&&_}
 use mathlib.Core.List.{List, [], _∷_}
@@ -8,8 +8,8 @@ use native.Mathlib.Omega.{arith}
 use lib.ListN.{length, getD, drop, length-drop}
 use lib.Dec.{eqb, ltb}
 use borrow.Author.Tests.{eq-eqb, ne-eqb, lt-leb, le-leb}
-use Rattle.text.specs.Bytes.{startsWith, same, endsWith, indexOf, countOf, has, indexOfText, hasText, allWithin}
-use Rattle.text.proofs.Rest.{at-next, at-end}
+use Rattle.text.specs.Bytes.{startsWith, same, endsWith, indexOf, countOf, has, allWithin}
+use Rattle.text.proofs.AtIndex.{at-next, at-end}
 
 -- `find`
 module _ (s : List ℕ) (from b i : ℕ) (inv : from + indexOf b (drop from s) ≡ i + indexOf b (drop i s)) where
@@ -109,21 +109,3 @@ ends-short s p h = other-length (drop (length s - length p) s) p (λ e. omega (a
 pub ends-is : (s p : List ℕ) (x : Bool) → length p ≤ length s → x ≡ startsWith p (drop (length s - length p) s) → x ≡ endsWith p s
 unfolding endsWith
 ends-is s p x h e = same-length (drop (length s - length p) s) p x (omega (arith, length-drop (length s - length p) s)) e
-
--- `find_text`
-module _ (p s : List ℕ) (i : ℕ) (inv : indexOfText p s ≡ i + indexOfText p (drop i s)) where
-  at-text : (x : Bool) → i < length s → x ≡ startsWith p (drop i s) → indexOfText p (drop i s) ≡ cond x 0 (suc (indexOfText p (drop (i + 1) s)))
-  at-text x h e = rw (e, at-next s i h)
-
-  pub text-hit : (x : Bool) → i < length s → x ≡ startsWith p (drop i s) → x ≡ true → i ≡ indexOfText p s
-  text-hit x h e k = let z : indexOfText p (drop i s) ≡ 0 = rw (at-text x h e, k) in omega arith
-
-  pub text-miss : (x : Bool) → i < length s → x ≡ startsWith p (drop i s) → x ≡ false → indexOfText p s ≡ (i + 1) + indexOfText p (drop (i + 1) s)
-  text-miss x h e k = let z : indexOfText p (drop i s) ≡ suc (indexOfText p (drop (i + 1) s)) = rw (at-text x h e, k) in omega arith
-
-  pub text-end : length s ≤ i → i ≡ indexOfText p s
-  text-end h = let z : indexOfText p (drop i s) ≡ 0 = rw (at-end s i h) in omega arith
-
-pub has-text-is : (s p : List ℕ) (e : ℕ) → e ≡ indexOfText p s → ltb e (length s) ≡ hasText p s
-unfolding hasText
-has-text-is s p e q = rw q

@@ -1,6 +1,9 @@
 pub mod Accepts
+pub mod AtIndex
+pub mod Begins
 pub mod Below
 pub mod Codes
+pub mod Copying
 pub mod Digits
 pub mod Fields
 pub mod Finding
@@ -11,11 +14,15 @@ pub mod Numbers
 pub mod One
 pub mod OneNumber
 pub mod Parts
+pub mod ReaderPlaces
+pub mod ReaderStarts
 pub mod Readings
-pub mod Rest
 pub mod Signs
-pub mod Stands
+pub mod SplitsOnce
+pub mod Tests
 pub mod Trims
+pub mod Utf8Cuts
 pub mod Utf8Grammar
 pub mod Utf8Laws
 pub mod Walk
+pub mod Yields

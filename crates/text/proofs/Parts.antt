@@ -10,9 +10,9 @@ use lib.Seq.{take-all, take-nil, drop-drop}
 use lib.Dec.{eqb}
 use borrow.Author.Tests.{lt-ltb, le-ltb}
 use denote.Ref.{RefT, now, ptr}
-use Rattle.text.specs.Bytes.{indexOf, countOf, indexOfText, startsWith}
-use Rattle.text.specs.Part.{IsPart, partOf, inside, before, after, beforeText, afterText}
-use Rattle.text.proofs.Rest.{at-end}
+use Rattle.text.specs.Bytes.{indexOf, countOf}
+use Rattle.text.specs.Part.{IsPart, partOf, inside, before, after}
+use Rattle.text.proofs.AtIndex.{at-end}
 
 -- what is found lies in the line
 pub index-le : (b : ℕ) (s : List ℕ) → indexOf b s ≤ length s
@@ -20,14 +20,6 @@ index-le b [] = omega arith
 index-le b (x ∷ s) = step (eqb x b) (index-le b s)
   where
     step : (t : Bool) → indexOf b s ≤ length s → cond t 0 (suc (indexOf b s)) ≤ suc (length s)
-    step true h = omega arith
-    step false h = omega arith
-
-pub text-index-le : (p s : List ℕ) → indexOfText p s ≤ length s
-text-index-le p [] = omega arith
-text-index-le p (x ∷ s) = step (startsWith p (x ∷ s)) (text-index-le p s)
-  where
-    step : (t : Bool) → indexOfText p s ≤ length s → cond t 0 (suc (indexOfText p s)) ≤ suc (length s)
     step true h = omega arith
     step false h = omega arith
 
@@ -67,11 +59,6 @@ pub place-in : (s : RefT (List ℕ)) (a : ℕ) → a ≤ length (now s)
 unfolding inside
 place-in s a h = rw (le-ltb (length (now s)) a h)
 
--- a start past the end is the end
-inside-end : (s : List ℕ) (a : ℕ) → length s < a → inside s (length s) ≡ inside s a
-unfolding inside
-inside-end s a h = rw (le-ltb (length s) (length s) (omega arith), lt-ltb (length s) a h)
-
 -- a part of a part
 pub part-shift : (s : List ℕ) (k a e : ℕ) → partOf s (k + a) (k + e) ≡ partOf (drop k s) a e
 unfolding partOf
@@ -89,7 +76,7 @@ from-start s e = rw sub-zero
 pub part-as : (s t : RefT (List ℕ)) (a b : ℕ) (x y : List ℕ) → a ≡ b → x ≡ y → IsPart s t a x → IsPart s t b y
 part-as s t a b x y e h p = rw (sym e, sym h) p
 
--- `before_byte`, `after_byte`, `before_text` and `after_text`: the part that ends, or begins, where something was found
+-- `before_byte` and `after_byte`: the part that ends, or begins, where something was found
 module _ (s t : RefT (List ℕ)) (e : ℕ) where
   pub before-part : (b : ℕ) → e ≡ 0 + indexOf b (now s) → IsPart s t 0 (partOf (now s) 0 e) → IsPart s t 0 (before b (now s))
   before-part b q = let z : e ≡ indexOf b (now s) = omega arith in part-as s t 0 0 _ _ refl (from-start (now s) e ∙ ap (λ (n : ℕ). take n (now s)) z)
@@ -98,22 +85,3 @@ module _ (s t : RefT (List ℕ)) (e : ℕ) where
   after-part b q =
       let z : e + 1 ≡ indexOf b (now s) + 1 = omega arith in
       part-as s t (e + 1) _ _ _ z (to-end (now s) (e + 1) ∙ ap (λ (n : ℕ). drop n (now s)) z)
-
-  pub before-text-part : (p : List ℕ) → e ≡ indexOfText p (now s) → IsPart s t 0 (partOf (now s) 0 e) → IsPart s t 0 (beforeText p (now s))
-  before-text-part p q = part-as s t 0 0 _ _ refl (from-start (now s) e ∙ ap (λ (n : ℕ). take n (now s)) q)
-
-  pub after-text-part : (p : List ℕ) → e ≡ indexOfText p (now s)
-      → IsPart s t (e + length p) (partOf (now s) (e + length p) (length (now s))) → IsPart s t (indexOfText p (now s) + length p) (afterText p (now s))
-  after-text-part p q =
-      let z : e + length p ≡ indexOfText p (now s) + length p = omega arith in
-      part-as s t _ _ _ _ z (to-end (now s) (e + length p) ∙ ap (λ (n : ℕ). drop n (now s)) z)
-
-  -- where the line is too short for the text behind the place, nothing follows it
-  pub no-text-part : (p : List ℕ) → e ≡ indexOfText p (now s) → length (now s) - e < length p
-      → IsPart s t (length (now s)) (partOf (now s) (length (now s)) (length (now s))) → IsPart s t (indexOfText p (now s) + length p) (afterText p (now s))
-  no-text-part p q h f =
-      let z : length (now s) < indexOfText p (now s) + length p = omega (arith, text-index-le p (now s)) in
-      record {
-        bytes = f .bytes ∙ to-end (now s) (length (now s)) ∙ at-end (now s) (length (now s)) (omega arith) ∙ sym (at-end (now s) (indexOfText p (now s) + length p) (omega arith));
-        place = f .place ∙ ap (λ (n : ℕ). (ptr s .0, n + ptr s .1)) (inside-end (now s) (indexOfText p (now s) + length p) z);
-      }

@@ -1,7 +1,7 @@
 -- The steps of a reader: what the code tested, and what it learnt of a call, picks the case of its paper definition. Each premise is spelled
 -- as the code's test or the callee's promise has it, so that `search reader` closes a reader's answers. Assumes nothing.
 use mathlib.Core.Path.{_≡_, refl, ap, sym, _∙_, subst}
-use mathlib.Core.Bool.{Bool, true, false, not}
+use mathlib.Core.Bool.{Bool, true, false, not, _||_}
 use mathlib.Core.List.{List, [], _∷_}
 use mathlib.Core.Option.{Option, none, some}
 use Prim.Native.Nat.{ℕ, _≤_, _<_}
@@ -63,6 +63,20 @@ module _ {A : Type 0} where
     pub only-under : (r : Reading A) → k ≡ c → k < n → refused 3 ≡ only (leb n c) r
     only-under r e h = only-not (leb n c) false r (sym (lt-leb n c (subst (λ (m : ℕ). m < n) e h))) refl
 
+  -- a test that is known: the count is among those listed, or not
+  module _ (t : Bool) where
+    pub listed : (r u q : Reading A) → true ≡ t → q ≡ r → q ≡ either t r u
+    listed r u q e = either-so t true r u q e refl
+
+    pub unlisted : (r u q : Reading A) → false ≡ t → q ≡ u → q ≡ either t r u
+    unlisted r u q e = either-not t false r u q e refl
+
+    pub only-listed : (r q : Reading A) → true ≡ t → q ≡ r → q ≡ only t r
+    only-listed r q e = only-so t true r q e refl
+
+    pub only-unlisted : (r : Reading A) → false ≡ t → refused 3 ≡ only t r
+    only-unlisted r e = only-not t false r e refl
+
   -- a text of some length, which the code has under the name t
   module _ (lo hi : ℕ) (t s : List ℕ) (r : Reading A) where
     pub sized-so : (q : Reading A) → t ≡ s → lo ≤ length t → length t ≤ hi → q ≡ r → q ≡ sized lo hi s r
@@ -86,6 +100,16 @@ module _ {A : Type 0} where
     pub too-long : t ≡ s → n < length t → refused 4 ≡ fitting n s r
     unfolding fitting
     too-long e h = rw (sym e, lt-leb _ _ h)
+
+-- a count that the code has under the name k is among so many
+module _ (k c n : ℕ) (e : k ≡ c) where
+  pub listed-here : (t : Bool) → k ≡ n → true ≡ eqb c n || t
+  listed-here t h = rw (eq-eqb c n (sym e ∙ h))
+
+  pub listed-later : (x t : Bool) → (k ≡ n → ⊥) → x ≡ t → x ≡ eqb c n || t
+  listed-later x t h p = rw (ne-eqb c n (λ z. h (e ∙ z))) p
+
+pub ruleset counted = (listed-here, listed-later, listed, unlisted, only-listed, only-unlisted)
 
 module _ {A B : Type 0} where
   pub need-not : (o : Option A) (f : A → Reading B) → none ≡ o → refused 3 ≡ need o f

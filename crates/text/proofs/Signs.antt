@@ -13,6 +13,7 @@ use lib.Pow.{pow-pos}
 use mir.Facts.{toZ-pos, toZ-ofZ}
 use mir.Syntax.{Width}
 use mir.Val.{Fits, SFits, bits, hbits, toZ, ofZ}
+use borrow.Author.Needs.{needs}
 use borrow.Author.Tests.{eq-eqb, ne-eqb}
 use Rattle.text.specs.Bytes.{startsWith}
 use Rattle.text.specs.Number.{magnitude, unsigned, negative, signed}
@@ -76,6 +77,9 @@ module _ (base max n : ℕ) (s : List ℕ) (r : ParsedU64) (e : r ≡ Is n) wher
 
   pub plain-sfits : (w : Width) → saysU64 r ≡ unsigned base max s → T (ltb max (2 ^ hbits w)) → SFits w (pos n)
   plain-sfits w h t = record { sfits = lt-of-le-of-lt (plain-le h) (ltb→lt _ _ t) }
+
+-- `parse_u8`, `u16_in` and `u32_in`: the answer of the reader below, in a smaller type
+pub ruleset narrowed = (needs, plain-fits, is-read, is-none)
 
 -- `parse_i32`, after a minus and without one
 module _ (base max x : ℕ) (s : List ℕ) (first : x ≡ getD s 0 0) (r : ParsedU64) where

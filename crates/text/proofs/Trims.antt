@@ -10,7 +10,7 @@ use lib.Dec.{eqb}
 use borrow.Author.Tests.{eq-eqb, ne-eqb, eqb-true, eqb-false}
 use denote.Ref.{RefT, now}
 use Rattle.text.specs.Part.{IsPart, partOf, among, trimFront, keep, trimEnd, trimmed, leading, trimPlace}
-use Rattle.text.proofs.Rest.{at-next, at-end}
+use Rattle.text.proofs.AtIndex.{at-next, at-end}
 use Rattle.text.proofs.Parts.{from-start, part-as}
 
 -- a byte that is one of two, and one that is neither

@@ -11,7 +11,8 @@ use lib.Seq.{take-at, drop-at}
 use borrow.Author.Tests.{eqb-true, ltb-true, leb-true, lt-leb}
 use Rattle.text.specs.Bytes.{within}
 use Rattle.text.specs.Utf8.{Range, rows, fits, Character, Octets, none, char, sizeBy, charSize, behind, utf8}
-use Rattle.text.proofs.Utf8Laws.{and-left, and-right, fits-length, led-size, utf8-next, utf8-not}
+use Rattle.text.proofs.Tests.{and-left, and-right}
+use Rattle.text.proofs.Utf8Laws.{fits-length, led-size, utf8-next, utf8-not}
 
 -- one of the rows fits at the front, and has n bytes
 abbrev Found : List (List Range) → List ℕ → ℕ → Type 0
@@ -61,7 +62,7 @@ ordered : List (List Range) → Bool
 ordered [] = true
 ordered (q ∷ rs) = every (below q) rs && ordered rs
 
-every-at : (f : List Range → Bool) {r : List Range} {rs : List (List Range)} → List·Memᴰ r rs → every f rs ≡ true → f r ≡ true
+pub every-at : (f : List Range → Bool) {r : List Range} {rs : List (List Range)} → List·Memᴰ r rs → every f rs ≡ true → f r ≡ true
 every-at f (List·Memᴰ·head {x = q} {xs = rs} e) h = rw e (and-left (f q) (every f rs) h)
 every-at f (List·Memᴰ·tail {x = q} {xs = rs} m) h = every-at f m (and-right (f q) (every f rs) h)
 

@@ -1,29 +1,23 @@
 -- UTF-8: the test goes from character to character, and what the functions of src/utf8.rt give at each step.
 use mathlib.Core.Path.{_≡_, refl, ap, sym, _∙_, subst}
-use mathlib.Core.Bool.{Bool, true, false, cond, _&&_, _||_, not, false≢true, and-eq-true-iff, and-false}
+use mathlib.Core.Bool.{Bool, true, false, cond, _&&_, _||_, not, false≢true, and-false}
 use mathlib.Core.List.{List, [], _∷_}
 use Prim.Native.Nat.{ℕ, zero, suc, _+_, _-_, _*_, _^_, _≤_, _<_}
-use native.Mathlib.Numerals.{add-one}
 use native.Mathlib.Nat.{add-zero, sub-zero, eq-of-mul-eq-mul-right}
 use native.Mathlib.Omega.{arith}
 use lib.Bits.{bitAnd, and-block}
 use lib.Dec.{T, eqb, leb, ltb, ltb→lt}
 use lib.ListN.{length, getD, take, drop, replicate, length-drop, length-take, length-replicate, drop-of-length-le}
-use lib.Seq.{drop-cons, drop-drop}
+use lib.Seq.{drop-drop}
 use lib.Pow.{pow-pos}
 use borrow.Author.Tests.{ne-eqb, ltb-true, ltb-false, le-leb, lt-leb, leb-true}
 use mir.Val.{Fits}
 use mir.Syntax.{w64}
 use Rattle.text.specs.Bytes.{within}
 use Rattle.text.specs.Utf8.{Range, to, tail, rows, fits, sizeBy, charSize, behind, utf8, AsciiIn}
+use Rattle.text.proofs.AtIndex.{at-next}
 use Rattle.text.proofs.Below.{below}
-
-module _ (a b : Bool) (h : a && b ≡ true) where
-  pub and-left : a ≡ true
-  and-left = and-eq-true-iff a b .0 h .0
-
-  pub and-right : b ≡ true
-  and-right = and-eq-true-iff a b .0 h .1
+use Rattle.text.proofs.Tests.{and-left, and-right}
 
 -- what has another length fits no row
 pub fits-length : (r : List Range) (c : List ℕ) → fits r c ≡ true → length r ≡ length c
@@ -70,9 +64,6 @@ utf8-next s =
 pub utf8-not : (s : List ℕ) → charSize s ≡ 0 → (length s ≡ 0 → ⊥) → utf8 s ≡ false
 unfolding utf8
 utf8-not s e h = rw (stuck (length s) s e) (ne-eqb (length s) 0 h)
-
-at-next : (s : List ℕ) (i : ℕ) → i < length s → drop i s ≡ getD s i 0 ∷ drop (i + 1) s
-at-next s i h = rw (add-one, drop-cons s i 0)
 
 -- `all_tails`
 pub tails-start : (s : List ℕ) (a n : ℕ) → fits (replicate n tail) (take n (drop a s)) ≡ fits (replicate (n - 0) tail) (take (n - 0) (drop (a + 0) s))

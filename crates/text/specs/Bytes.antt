@@ -1,4 +1,4 @@
--- A line is a list of bytes, and a byte a number below 256. Tests on lines, and where a byte or a text stands.
+-- A line is a list of bytes, and a byte a number below 256. Tests on lines, and where a byte stands.
 use Prim.Native.Nat.{ℕ, zero, suc, _+_, _-_}
 use Prim.Native.Char.{Char, code}
 use Prim.Native.String.{String}
@@ -44,15 +44,6 @@ countOf b (x ∷ s) = cond (eqb x b) 1 0 + countOf b s
 -- the line has a b
 unfoldable pub has : ℕ → List ℕ → Bool
 has b s = ltb (indexOf b s) (length s)
-
--- how many bytes stand before the first place where the text p stands, all of them where there is none
-abbrev pub indexOfText : List ℕ → List ℕ → ℕ
-indexOfText p [] = 0
-indexOfText p (x ∷ s) = cond (startsWith p (x ∷ s)) 0 (suc (indexOfText p s))
-
--- the text p stands in the line
-unfoldable pub hasText : List ℕ → List ℕ → Bool
-hasText p s = ltb (indexOfText p s) (length s)
 
 -- every byte lies from lo to hi, as those of an empty line do
 abbrev pub allWithin : ℕ → ℕ → List ℕ → Bool

@@ -1,7 +1,7 @@
 -- The fields of a line: what stands between the separators, in order. A line has at least one.
 use Prim.Native.Nat.{ℕ, zero, suc, _+_}
 use mathlib.Core.Bool.{Bool, true, false, cond}
-use mathlib.Core.List.{List, [], _∷_, _++_}
+use mathlib.Core.List.{List, [], _∷_}
 use lib.ListN.{length}
 use lib.Dec.{eqb}
 
@@ -19,18 +19,6 @@ abbrev pub nth : ℕ → List (List ℕ) → List ℕ
 nth n [] = []
 nth zero (f ∷ fs) = f
 nth (suc n) (f ∷ fs) = nth n fs
-
--- the fields from n on
-abbrev pub from : ℕ → List (List ℕ) → List (List ℕ)
-from zero fs = fs
-from (suc n) [] = []
-from (suc n) (f ∷ fs) = from n fs
-
--- fields put together again, with the separators between them
-abbrev pub joined : ℕ → List (List ℕ) → List ℕ
-joined b [] = []
-joined b (f ∷ []) = f
-joined b (f ∷ g ∷ fs) = f ++ b ∷ joined b (g ∷ fs)
 
 -- where field n begins: behind the fields before it, each with its separator; one past the line's end where there is no field n
 abbrev pub placeOf : ℕ → List (List ℕ) → ℕ

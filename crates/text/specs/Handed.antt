@@ -39,7 +39,10 @@ lent line fallback h = cond (h .fallback) fallback line
 unfoldable pub IsHanded : (line fallback : RefT (List ℕ)) → Handed → RefT (List ℕ) → Type 0
 IsHanded line fallback h t = IsPart (lent line fallback h) t (h .span .start) (partOf (now (lent line fallback h)) (h .span .start) (h .span .end))
 
--- what a call answers that hands it out: the part, and the number
+-- what a call answers that cuts it out, and one that hands it out: the part, and the number
+abbrev pub CutKeeps : (line fallback : RefT (List ℕ)) → Handed → RefT (List ℕ) → Type 0
+CutKeeps line fallback h t = IsHanded line fallback h t
+
 pub record HandsOut (line fallback : RefT (List ℕ)) (h : Handed) (text : RefT (List ℕ)) (refusal : ℕ) : Type 0 where
   pub part : IsHanded line fallback h text
   pub number : refusal ≡ h .refusal

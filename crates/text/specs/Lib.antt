@@ -1,5 +1,6 @@
 pub mod Bytes
 pub mod Code
+pub mod Copy
 pub mod Field
 pub mod Gives
 pub mod Handed
@@ -9,5 +10,6 @@ pub mod Part
 pub mod Reader
 pub mod Reading
 pub mod Same
+pub mod SplitOnce
 pub mod Utf8
 pub mod says

@@ -6,7 +6,7 @@ use mathlib.Core.List.{List, [], _∷_}
 use lib.ListN.{length, take, drop}
 use lib.Dec.{eqb, ltb}
 use denote.Ref.{RefT, now, ptr}
-use Rattle.text.specs.Bytes.{indexOf, indexOfText}
+use Rattle.text.specs.Bytes.{indexOf}
 
 -- the bytes from a up to e: none where a is e or more, and none past the end
 unfoldable pub partOf : List ℕ → ℕ → ℕ → List ℕ
@@ -36,13 +36,6 @@ before b s = take (indexOf b s) s
 
 abbrev pub after : ℕ → List ℕ → List ℕ
 after b s = drop (indexOf b s + 1) s
-
--- the same for the first place where the text p stands
-abbrev pub beforeText : List ℕ → List ℕ → List ℕ
-beforeText p s = take (indexOfText p s) s
-
-abbrev pub afterText : List ℕ → List ℕ → List ℕ
-afterText p s = drop (indexOfText p s + length p) s
 
 -- the byte is one of these
 abbrev pub among : List ℕ → ℕ → Bool

@@ -72,3 +72,14 @@ utf8 s = eqb (length (behind (length s) s)) 0
 -- the n bytes from a on are ASCII (UTF8-1 = %x00-7F)
 abbrev pub AsciiIn : List ℕ → ℕ → ℕ → Type 0
 AsciiIn s a n = (k : ℕ) → a ≤ k → k < a + n → getD s k 0 < 0x80
+
+-- a place inside a character of a text: behind the character's first byte and before its end. Rust cuts no text there.
+pub record Inside (s : List ℕ) (at : ℕ) : Type 0 where
+  pub front : List ℕ
+  pub character : List ℕ
+  pub back : List ℕ
+  pub text : s ≡ front ++ (character ++ back)
+  pub octets : Octets front
+  pub is : Character character
+  pub behind-first : length front < at
+  pub before-end : at < length front + length character

@@ -1,3 +1,4 @@
 pub mod Handed
 pub mod Number
 pub mod Part
+pub mod Reader

@@ -2,11 +2,12 @@
 ghost use mathlib.Core.Path.{_≡_};
 ghost use Prim.Native.Nat.{_+_, _≤_};
 ghost use lib.ListN.{length, drop};
-ghost use Rattle.text.specs.Bytes.{same, startsWith, endsWith, indexOf, countOf, has, allWithin, allDigits, indexOfText, hasText};
+ghost use Rattle.text.specs.Bytes.{same, startsWith, endsWith, indexOf, countOf, has, allWithin, allDigits};
+ghost use Rattle.text.specs.Gives.{Gives};
 
 // The index of the first b of s at or after `from`: where there is none, the length, or `from` where that is larger.
 pub fn find(s: &[u8], from: usize, b: u8) -> usize
-    ensures { λ r. ⌜ r ≡ from + indexOf b (drop from (now (s .entry))) ⌝ }
+    ensures { λ r. ⌜ Gives (from + indexOf b (drop from (now (s .entry)))) r ⌝ }
 {
     let mut i = from;
     while i < s.len() {
@@ -20,14 +21,14 @@ pub fn find(s: &[u8], from: usize, b: u8) -> usize
 
 // Whether s has a b.
 pub fn has_byte(s: &[u8], b: u8) -> bool
-    ensures { λ r. ⌜ r ≡ has b (now (s .entry)) ⌝ }
+    ensures { λ r. ⌜ Gives (has b (now (s .entry))) r ⌝ }
 {
     find(s, 0, b) < s.len()
 }
 
 // How often b stands in s.
 pub fn count_byte(s: &[u8], b: u8) -> usize
-    ensures { λ r. ⌜ r ≡ countOf b (now (s .entry)) ⌝ }
+    ensures { λ r. ⌜ Gives (countOf b (now (s .entry))) r ⌝ }
 {
     let mut n = 0;
     let mut i = 0;
@@ -62,14 +63,14 @@ fn stands_at(s: &[u8], at: usize, p: &[u8]) -> bool
 
 // Whether s begins with p.
 pub fn starts_with(s: &[u8], p: &[u8]) -> bool
-    ensures { λ r. ⌜ r ≡ startsWith (now (p .entry)) (now (s .entry)) ⌝ }
+    ensures { λ r. ⌜ Gives (startsWith (now (p .entry)) (now (s .entry))) r ⌝ }
 {
     stands_at(s, 0, p)
 }
 
 // Whether s is the text t.
 pub fn is_text(s: &[u8], t: &[u8]) -> bool
-    ensures { λ r. ⌜ r ≡ same (now (s .entry)) (now (t .entry)) ⌝ }
+    ensures { λ r. ⌜ Gives (same (now (s .entry)) (now (t .entry))) r ⌝ }
 {
     if s.len() == t.len() {
         return stands_at(s, 0, t);
@@ -79,7 +80,7 @@ pub fn is_text(s: &[u8], t: &[u8]) -> bool
 
 // Whether s ends with p.
 pub fn ends_with(s: &[u8], p: &[u8]) -> bool
-    ensures { λ r. ⌜ r ≡ endsWith (now (p .entry)) (now (s .entry)) ⌝ }
+    ensures { λ r. ⌜ Gives (endsWith (now (p .entry)) (now (s .entry))) r ⌝ }
 {
     if s.len() < p.len() {
         return false;
@@ -87,30 +88,9 @@ pub fn ends_with(s: &[u8], p: &[u8]) -> bool
     stands_at(s, s.len() - p.len(), p)
 }
 
-// The index of the first place where the text p stands in s, the length where there is none.
-pub fn find_text(s: &[u8], p: &[u8]) -> usize
-    ensures { λ r. ⌜ r ≡ indexOfText (now (p .entry)) (now (s .entry)) ⌝ }
-{
-    let mut i = 0;
-    while i < s.len() {
-        if stands_at(s, i, p) {
-            return i;
-        }
-        i += 1;
-    }
-    i
-}
-
-// Whether the text p stands in s.
-pub fn has_text(s: &[u8], p: &[u8]) -> bool
-    ensures { λ r. ⌜ r ≡ hasText (now (p .entry)) (now (s .entry)) ⌝ }
-{
-    find_text(s, p) < s.len()
-}
-
 // Whether all bytes of s lie from lo to hi.
 pub fn all_within(s: &[u8], lo: u8, hi: u8) -> bool
-    ensures { λ r. ⌜ r ≡ allWithin lo hi (now (s .entry)) ⌝ }
+    ensures { λ r. ⌜ Gives (allWithin lo hi (now (s .entry))) r ⌝ }
 {
     let mut i = 0;
     while i < s.len() {
@@ -128,7 +108,7 @@ pub fn all_within(s: &[u8], lo: u8, hi: u8) -> bool
 
 // Whether all bytes of s are ASCII digits.
 pub fn all_digits(s: &[u8]) -> bool
-    ensures { λ r. ⌜ r ≡ allDigits (now (s .entry)) ⌝ }
+    ensures { λ r. ⌜ Gives (allDigits (now (s .entry))) r ⌝ }
 {
     all_within(s, 48, 57)
 }

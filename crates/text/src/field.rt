@@ -1,15 +1,14 @@
 // The fields of a line between separators.
 use crate::bytes;
 use crate::part;
-ghost use mathlib.Core.Path.{_≡_};
-ghost use Prim.Native.Nat.{_+_, _≤_};
-ghost use lib.ListN.{length, drop};
+ghost use lib.ListN.{length};
 ghost use Rattle.text.specs.Part.{IsPart};
-ghost use Rattle.text.specs.Field.{fields, nth, from, joined, placeOf};
+ghost use Rattle.text.specs.Field.{fields, nth, placeOf};
+ghost use Rattle.text.specs.Gives.{Gives};
 
 // Where field n of s begins, counted from 0, where b parts the fields; one past the end where there is none.
 pub fn field_start(s: &[u8], b: u8, n: usize) -> usize
-    ensures { λ r. ⌜ r ≡ placeOf n (fields b (now (s .entry))) ⌝ }
+    ensures { λ r. ⌜ Gives (placeOf n (fields b (now (s .entry)))) r ⌝ }
 {
     let mut at = 0;
     let mut k = 0;
@@ -32,16 +31,9 @@ pub fn field(s: &[u8], b: u8, n: usize) -> &[u8]
     part::part(s, at, bytes::find(s, at, b))
 }
 
-// Field n of s with all that follows it, the separators kept; empty past the last.
-pub fn field_and_rest(s: &[u8], b: u8, n: usize) -> &[u8]
-    ensures { λ r. ⌜ IsPart (s .entry) r (placeOf n (fields b (now (s .entry)))) (joined b (from n (fields b (now (s .entry))))) ⌝ }
-{
-    part::skip(s, field_start(s, b, n))
-}
-
 // How many fields s has.
 pub fn field_count(s: &[u8], b: u8) -> usize
-    ensures { λ r. ⌜ r ≡ length (fields b (now (s .entry))) ⌝ }
+    ensures { λ r. ⌜ Gives (length (fields b (now (s .entry)))) r ⌝ }
 {
     bytes::count_byte(s, b) + 1
 }

@@ -1,9 +1,8 @@
 // Texts handed out of a line that is read anew: a part of the line and no copy, with the number of the refusal.
 use crate::part;
 use crate::part::Place;
-ghost use mathlib.Core.Path.{_≡_};
-ghost use Rattle.text.specs.Handed.{nowhere, inLine, inFallback, IsHanded};
-ghost use Rattle.text.specs.says.Handed.{atSays};
+ghost use Rattle.text.specs.Handed.{nowhere, inLine, inFallback, CutKeeps};
+ghost use Rattle.text.specs.says.Handed.{atSays, AtKeeps};
 ghost use Rattle.text.specs.says.Part.{placeSays};
 
 // The text, empty where it is absent or refused, and 0 or the number of the refusal.
@@ -22,7 +21,7 @@ pub struct TextAt {
 
 // No text: it is refused, or absent where the number is 0.
 pub fn nowhere(refusal: u8) -> TextAt
-    ensures { λ r. ⌜ atSays r ≡ nowhere refusal ⌝ }
+    ensures { λ r. ⌜ AtKeeps (nowhere refusal) r ⌝ }
 {
     TextAt {
         refusal,
@@ -33,7 +32,7 @@ pub fn nowhere(refusal: u8) -> TextAt
 }
 
 pub fn in_line(place: Place) -> TextAt
-    ensures { λ r. ⌜ atSays r ≡ inLine (placeSays place) ⌝ }
+    ensures { λ r. ⌜ AtKeeps (inLine (placeSays place)) r ⌝ }
 {
     TextAt {
         refusal: 0,
@@ -44,7 +43,7 @@ pub fn in_line(place: Place) -> TextAt
 }
 
 pub fn in_fallback(place: Place) -> TextAt
-    ensures { λ r. ⌜ atSays r ≡ inFallback (placeSays place) ⌝ }
+    ensures { λ r. ⌜ AtKeeps (inFallback (placeSays place)) r ⌝ }
 {
     TextAt {
         refusal: 0,
@@ -56,7 +55,7 @@ pub fn in_fallback(place: Place) -> TextAt
 
 // The part of the line, or of the text lent for it.
 pub fn cut<'a>(at: TextAt, line: &'a [u8], fallback: &'a [u8]) -> &'a [u8]
-    ensures { λ r. ⌜ IsHanded (line .entry) (fallback .entry) (atSays at) r ⌝ }
+    ensures { λ r. ⌜ CutKeeps (line .entry) (fallback .entry) (atSays at) r ⌝ }
 {
     if at.in_fallback {
         return part::part(fallback, at.start, at.end);

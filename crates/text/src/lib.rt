@@ -1,6 +1,7 @@
 // The bytes of a line: tests, parts, fields, numbers, UTF-8, and the check that every line passes first.
 pub mod bytes;
 pub mod code;
+pub mod copy;
 pub mod field;
 pub mod handed;
 pub mod line;

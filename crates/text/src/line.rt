@@ -1,12 +1,12 @@
 // The check that every line passes first.
 use crate::utf8;
-ghost use mathlib.Core.Path.{_≡_};
+ghost use Rattle.text.specs.Gives.{Gives};
 ghost use Rattle.text.specs.Reading.{worse};
 ghost use Rattle.text.specs.Line.{lineCheck};
 
 // The number of the refusal that every reader gives s: 1, it has more than 256 bytes; 2, it is not UTF-8; 0, none.
 pub fn check_line(s: &[u8]) -> u8
-    ensures { λ r. ⌜ r ≡ lineCheck (now (s .entry)) ⌝ }
+    ensures { λ r. ⌜ Gives (lineCheck (now (s .entry))) r ⌝ }
 {
     if 256 < s.len() {
         return 1;
@@ -19,7 +19,7 @@ pub fn check_line(s: &[u8]) -> u8
 
 // The refusal of two readers tried one after the other: 4 where the first said 4.
 pub fn worse_of(j: u8, k: u8) -> u8
-    ensures { λ r. ⌜ r ≡ worse j k ⌝ }
+    ensures { λ r. ⌜ Gives (worse j k) r ⌝ }
 {
     if j == 4 {
         return 4;

@@ -4,7 +4,7 @@ ghost use mathlib.Core.Option.{some};
 ghost use Prim.Native.Nat.{_≤_};
 ghost use lib.ListN.{drop, getD};
 ghost use Rattle.text.specs.Number.{digitValue, below, magnitude, unsigned, negative, signed};
-ghost use Rattle.text.specs.says.Number.{saysU8, saysU16, saysU32, saysU64, saysI32};
+ghost use Rattle.text.specs.says.Number.{U8Keeps, U16Keeps, U32Keeps, U64Keeps, I32Keeps};
 
 // A number that was read, or none.
 pub enum ParsedU8 {
@@ -47,7 +47,7 @@ fn digit_value(x: u8) -> u8
 // The number of at most max whose digits are the bytes from `from` on.
 fn magnitude(s: &[u8], from: usize, base: u64, max: u64) -> ParsedU64
     requires { ⌜ (1 ≤ base) × (base ≤ 16) ⌝ }
-    ensures { λ r. ⌜ saysU64 r ≡ magnitude base max (drop from (now (s .entry))) ⌝ }
+    ensures { λ r. ⌜ U64Keeps (magnitude base max (drop from (now (s .entry)))) r ⌝ }
 {
     if s.len() <= from {
         return ParsedU64::Not;
@@ -87,7 +87,7 @@ fn first(s: &[u8]) -> u8
 // The same after an optional plus.
 fn unsigned(s: &[u8], base: u64, max: u64) -> ParsedU64
     requires { ⌜ (1 ≤ base) × (base ≤ 16) ⌝ }
-    ensures { λ r. ⌜ saysU64 r ≡ unsigned base max (now (s .entry)) ⌝ }
+    ensures { λ r. ⌜ U64Keeps (unsigned base max (now (s .entry))) r ⌝ }
 {
     if first(s) == b'+' {
         return magnitude(s, 1, base, max);
@@ -96,7 +96,7 @@ fn unsigned(s: &[u8], base: u64, max: u64) -> ParsedU64
 }
 
 pub fn parse_u8(s: &[u8]) -> ParsedU8
-    ensures { λ r. ⌜ saysU8 r ≡ unsigned 10 255 (now (s .entry)) ⌝ }
+    ensures { λ r. ⌜ U8Keeps (unsigned 10 255 (now (s .entry))) r ⌝ }
 {
     match unsigned(s, 10, 255) {
         ParsedU64::Is(n) => ParsedU8::Is(n as u8),
@@ -104,46 +104,54 @@ pub fn parse_u8(s: &[u8]) -> ParsedU8
     }
 }
 
-pub fn parse_u16(s: &[u8]) -> ParsedU16
-    ensures { λ r. ⌜ saysU16 r ≡ unsigned 10 65535 (now (s .entry)) ⌝ }
+fn u16_in(s: &[u8], base: u64) -> ParsedU16
+    requires { ⌜ (1 ≤ base) × (base ≤ 16) ⌝ }
+    ensures { λ r. ⌜ U16Keeps (unsigned base 65535 (now (s .entry))) r ⌝ }
 {
-    match unsigned(s, 10, 65535) {
+    match unsigned(s, base, 65535) {
         ParsedU64::Is(n) => ParsedU16::Is(n as u16),
         ParsedU64::Not => ParsedU16::Not,
     }
 }
 
-pub fn parse_u32(s: &[u8]) -> ParsedU32
-    ensures { λ r. ⌜ saysU32 r ≡ unsigned 10 4294967295 (now (s .entry)) ⌝ }
+fn u32_in(s: &[u8], base: u64) -> ParsedU32
+    requires { ⌜ (1 ≤ base) × (base ≤ 16) ⌝ }
+    ensures { λ r. ⌜ U32Keeps (unsigned base 4294967295 (now (s .entry))) r ⌝ }
 {
-    match unsigned(s, 10, 4294967295) {
+    match unsigned(s, base, 4294967295) {
         ParsedU64::Is(n) => ParsedU32::Is(n as u32),
         ParsedU64::Not => ParsedU32::Not,
     }
 }
 
+pub fn parse_u16(s: &[u8]) -> ParsedU16
+    ensures { λ r. ⌜ U16Keeps (unsigned 10 65535 (now (s .entry))) r ⌝ }
+{
+    u16_in(s, 10)
+}
+
+pub fn parse_u32(s: &[u8]) -> ParsedU32
+    ensures { λ r. ⌜ U32Keeps (unsigned 10 4294967295 (now (s .entry))) r ⌝ }
+{
+    u32_in(s, 10)
+}
+
 pub fn parse_u64(s: &[u8]) -> ParsedU64
-    ensures { λ r. ⌜ saysU64 r ≡ unsigned 10 18446744073709551615 (now (s .entry)) ⌝ }
+    ensures { λ r. ⌜ U64Keeps (unsigned 10 18446744073709551615 (now (s .entry))) r ⌝ }
 {
     unsigned(s, 10, 18446744073709551615)
 }
 
 pub fn parse_hex_u16(s: &[u8]) -> ParsedU16
-    ensures { λ r. ⌜ saysU16 r ≡ unsigned 16 65535 (now (s .entry)) ⌝ }
+    ensures { λ r. ⌜ U16Keeps (unsigned 16 65535 (now (s .entry))) r ⌝ }
 {
-    match unsigned(s, 16, 65535) {
-        ParsedU64::Is(n) => ParsedU16::Is(n as u16),
-        ParsedU64::Not => ParsedU16::Not,
-    }
+    u16_in(s, 16)
 }
 
 pub fn parse_hex_u32(s: &[u8]) -> ParsedU32
-    ensures { λ r. ⌜ saysU32 r ≡ unsigned 16 4294967295 (now (s .entry)) ⌝ }
+    ensures { λ r. ⌜ U32Keeps (unsigned 16 4294967295 (now (s .entry))) r ⌝ }
 {
-    match unsigned(s, 16, 4294967295) {
-        ParsedU64::Is(n) => ParsedU32::Is(n as u32),
-        ParsedU64::Not => ParsedU32::Not,
-    }
+    u32_in(s, 16)
 }
 
 // -m, formed below zero, where the least i32 has a place.
@@ -158,7 +166,7 @@ fn negative(m: u64) -> i32
 }
 
 pub fn parse_i32(s: &[u8]) -> ParsedI32
-    ensures { λ r. ⌜ saysI32 r ≡ signed 10 2147483647 (now (s .entry)) ⌝ }
+    ensures { λ r. ⌜ I32Keeps (signed 10 2147483647 (now (s .entry))) r ⌝ }
 {
     if first(s) == b'-' {
         return match magnitude(s, 1, 10, 2147483648) {

@@ -3,9 +3,10 @@ use crate::bytes;
 ghost use mathlib.Core.Path.{_≡_};
 ghost use mathlib.Core.List.{[], _∷_};
 ghost use Prim.Native.Nat.{_+_};
-ghost use lib.ListN.{length, take, drop};
-ghost use Rattle.text.specs.Bytes.{indexOf, indexOfText};
-ghost use Rattle.text.specs.Part.{IsPart, partOf, before, after, beforeText, afterText, trimEnd, trimmed, trimPlace};
+ghost use lib.ListN.{length, drop};
+ghost use Rattle.text.specs.Bytes.{indexOf};
+ghost use Rattle.text.specs.Gives.{Gives};
+ghost use Rattle.text.specs.Part.{IsPart, partOf, before, after, trimEnd, trimmed, trimPlace};
 
 // Where a text stands in its line.
 pub struct Place {
@@ -51,24 +52,6 @@ pub fn after_byte(s: &[u8], b: u8) -> &[u8]
     part(s, bytes::find(s, 0, b) + 1, s.len())
 }
 
-// The part before the first place where the text p stands, all of s where there is none.
-pub fn before_text<'a>(s: &'a [u8], p: &[u8]) -> &'a [u8]
-    ensures { λ r. ⌜ IsPart (s .entry) r 0 (beforeText (now (p .entry)) (now (s .entry))) ⌝ }
-{
-    part(s, 0, bytes::find_text(s, p))
-}
-
-// The part after the first place where the text p stands, empty where there is none.
-pub fn after_text<'a>(s: &'a [u8], p: &[u8]) -> &'a [u8]
-    ensures { λ r. ⌜ IsPart (s .entry) r (indexOfText (now (p .entry)) (now (s .entry)) + length (now (p .entry))) (afterText (now (p .entry)) (now (s .entry))) ⌝ }
-{
-    let e = bytes::find_text(s, p);
-    if s.len() - e < p.len() {
-        return part(s, s.len(), s.len());
-    }
-    part(s, e + p.len(), s.len())
-}
-
 // How many bytes are left of s without those at its end that are a or b.
 fn end_of(s: &[u8], a: u8, b: u8) -> usize
     ensures { λ r. ⌜ r ≡ length (trimEnd (a ∷ b ∷ []) (now (s .entry))) ⌝ }
@@ -97,7 +80,7 @@ pub fn trim_end(s: &[u8], a: u8, b: u8) -> &[u8]
 
 // Where s begins without the bs at its front; 0 where it has nothing else.
 pub fn trim_start(s: &[u8], b: u8) -> usize
-    ensures { λ r. ⌜ r ≡ trimPlace (b ∷ []) (now (s .entry)) ⌝ }
+    ensures { λ r. ⌜ Gives (trimPlace (b ∷ []) (now (s .entry))) r ⌝ }
 {
     let mut i = 0;
     while i < s.len() {

@@ -5,6 +5,7 @@ ghost use mathlib.Core.List.{_∷_};
 ghost use Prim.Native.Nat.{_+_, _-_, _≤_, _<_};
 ghost use lib.Bits.{bitAnd};
 ghost use lib.ListN.{length, take, drop, replicate};
+ghost use Rattle.text.specs.Gives.{Gives};
 ghost use Rattle.text.specs.Utf8.{to, tail, fits, charSize, utf8, AsciiIn};
 
 // Whether n UTF8-tails stand from a on.
@@ -153,7 +154,7 @@ fn ascii_front(s: &[u8]) -> usize
 
 // Whether s is UTF-8. Most lines are ASCII.
 pub fn is_utf8(s: &[u8]) -> bool
-    ensures { λ r. ⌜ r ≡ utf8 (now (s .entry)) ⌝ }
+    ensures { λ r. ⌜ Gives (utf8 (now (s .entry))) r ⌝ }
 {
     all_chars(s, ascii_front(s))
 }

@@ -1,4 +1,5 @@
-pub mod Lines
+pub mod DateCuts
+pub mod Examples
 pub mod One
 pub mod Prefixes
 pub mod Registrations

@@ -1,4 +1,4 @@
--- The registration readers: the status by its number, the count of fields, and that they refuse with 3 alone. Assumes nothing.
+-- The registration readers: the status by its number, which field it is, and that they refuse with 3 alone. Assumes nothing.
 use mathlib.Core.Path.{_≡_, refl, sym, _∙_}
 use mathlib.Core.Bool.{Bool, true, false, cond, _&&_, _||_}
 use mathlib.Core.List.{List, [], _∷_}
@@ -10,15 +10,16 @@ use lib.IntN.{ℤ, pos, negsuc}
 use lib.ListN.{length, drop}
 use mir.Syntax.{w32}
 use mir.Val.{SFits, ofZ}
-use borrow.Author.Tests.{eq-eqb, ne-eqb, leb-true, le-leb, lt-ltb, le-ltb}
+use borrow.Author.Tests.{leb-true, le-leb, lt-ltb, le-ltb}
 use Rattle.text.specs.Bytes.{allDigits}
 use Rattle.text.specs.Part.{among}
 use Rattle.text.specs.Field.{fields, nth}
 use Rattle.text.specs.Number.{signed}
-use Rattle.text.specs.Reading.{Reading, read, refused, only, either}
+use Rattle.text.specs.Reading.{Reading, read}
 use Rattle.text.proofs.Readings.{via}
 use Rattle.unsolicited.specs.Registration.{Registration, statusOf, registrationAt, registrationFields, cregText, cgregText, ceregStatus, ceregFields, ceregText, registrationText}
-use Rattle.unsolicited.proofs.Trials.{Plain, plain-only, plain-either, plain-need, plain-first, plain-none}
+use Rattle.text.proofs.Yields.{yields-only, yields-either, yields-need, yields-first}
+use Rattle.unsolicited.proofs.Trials.{Plain}
 
 -- `status_of` tests the bits of its number
 pub status-is : (k : ℕ) (z : ℤ) → SFits w32 z → ofZ w32 z ≡ k → 1 ≤ k → k ≤ 5 → k ≡ statusOf z
@@ -36,34 +37,7 @@ status-other (pos n) a b c d e = go (leb 1 n) (leb n 5) (leb-true 1 n) (leb-true
     go true false l h = refl
     go true true l h = let i = l refl in let j = h refl in absurd (omega arith)
 
--- the count of fields, which the code has under the name k, is among so many
-module _ (k c n : ℕ) (e : k ≡ c) where
-  pub listed-here : (t : Bool) → k ≡ n → true ≡ eqb c n || t
-  listed-here t h = rw (eq-eqb c n (sym e ∙ h))
-
-  pub listed-later : (x t : Bool) → (k ≡ n → ⊥) → x ≡ t → x ≡ eqb c n || t
-  listed-later x t h p = rw (ne-eqb c n (λ z. h (e ∙ z))) p
-
-module _ {A : Type 0} (t : Bool) where
-  pub listed : (r u q : Reading A) → true ≡ t → q ≡ r → q ≡ either t r u
-  unfolding either
-  listed r u q e p = rw (sym e) p
-
-  pub unlisted : (r u q : Reading A) → false ≡ t → q ≡ u → q ≡ either t r u
-  unfolding either
-  unlisted r u q e p = rw (sym e) p
-
-  pub only-listed : (r q : Reading A) → true ≡ t → q ≡ r → q ≡ only t r
-  unfolding only
-  only-listed r q e p = rw (sym e) p
-
-  pub only-unlisted : (r : Reading A) → false ≡ t → refused 3 ≡ only t r
-  unfolding only
-  only-unlisted r e = rw (sym e)
-
-pub ruleset counted = (listed-here, listed-later, listed, unlisted, only-listed, only-unlisted)
-
--- +CREG lists 5 as the most
+-- +CREG's longest has 5 fields
 five-twice : (n : ℕ) → among (2 ∷ 5 ∷ 5 ∷ []) n ≡ among (2 ∷ 5 ∷ []) n
 five-twice n = go (eqb n 2) (eqb n 5)
   where
@@ -98,24 +72,24 @@ registry a x b y c z e f g = rw (e, f, g)
 -- no refusal but 3
 plain-at : (n : ℕ) (fs : List (List ℕ)) → Plain (registrationAt n fs)
 unfolding registrationAt
-plain-at n fs = plain-need (signed 10 2147483647 (nth n fs)) _ (λ z. tt)
+plain-at n fs = yields-need _ _ (signed 10 2147483647 (nth n fs)) _ refl (λ z e. tt)
 
 plain-fields : (l : List ℕ) (fs : List (List ℕ)) → Plain (registrationFields l fs)
 unfolding registrationFields
-plain-fields l fs = plain-either _ _ _ (plain-at 0 fs) (plain-only _ _ (plain-at 1 fs))
+plain-fields l fs = yields-either _ _ _ _ _ (λ e. plain-at 0 fs) (λ e. yields-only _ _ _ _ refl (λ h. plain-at 1 fs))
 
 pub plain-creg : (s : List ℕ) → Plain (cregText s)
 unfolding cregText
-plain-creg s = plain-only _ _ (plain-fields _ (fields 44 (drop 7 s)))
+plain-creg s = yields-only _ _ _ _ refl (λ e. plain-fields _ (fields 44 (drop 7 s)))
 
 pub plain-cgreg : (s : List ℕ) → Plain (cgregText s)
 unfolding cgregText
-plain-cgreg s = plain-only _ _ (plain-fields _ (fields 44 (drop 8 s)))
+plain-cgreg s = yields-only _ _ _ _ refl (λ e. plain-fields _ (fields 44 (drop 8 s)))
 
 pub plain-cereg : (s : List ℕ) → Plain (ceregText s)
 unfolding ceregText ceregFields
-plain-cereg s = plain-only _ _ (plain-need _ _ (λ z. tt))
+plain-cereg s = yields-only _ _ _ _ refl (λ e. yields-need _ _ _ _ refl (λ z h. tt))
 
 pub plain-registration : (s : List ℕ) → Plain (registrationText s)
 unfolding registrationText
-plain-registration s = plain-first (cregText s) _ (plain-creg s) (plain-first (cgregText s) _ (plain-cgreg s) (plain-first (ceregText s) _ (plain-cereg s) (plain-none Registration)))
+plain-registration s = yields-first _ _ 3 (cregText s ∷ cgregText s ∷ ceregText s ∷ []) refl (plain-creg s, (plain-cgreg s, (plain-cereg s, tt)))

@@ -1,52 +1,126 @@
 -- The parts of +UGNSINF: where its fields begin, what may be empty, and what the code's answers pick. Assumes nothing.
 use mathlib.Core.Path.{_≡_, refl, ap, sym, _∙_}
-use mathlib.Core.Bool.{false, cond}
-use mathlib.Core.List.{List, [], _∷_}
+use mathlib.Core.Bool.{Bool, true, false, cond, _&&_}
+use mathlib.Core.List.{List}
 use mathlib.Core.Option.{Option, none, some, bind}
-use Prim.Native.Nat.{ℕ, zero, suc, _+_, _-_, _≤_, _<_}
-use native.Mathlib.Numerals.{add-one}
+use Prim.Native.Nat.{ℕ, _≤_, _<_}
 use native.Mathlib.Omega.{arith}
-use lib.Dec.{leb}
-use lib.Ieee.{binary32, ofBits, ofFields, fin}
+use lib.Dec.{eqb, leb}
+use lib.Ieee.{Float, binary32, ofBits, ofFields, fin}
 use lib.IntN.{pos}
-use lib.ListN.{length, getD, set, drop}
-use lib.Seq.{length-take-le, getD-set-same, getD-set-other}
-use borrow.Author.Count.{below-more}
+use lib.ListN.{length, getD, drop}
 use borrow.Author.Tests.{eq-eqb, ne-eqb, le-leb, lt-leb}
-use Rattle.text.specs.Bytes.{indexOf}
-use Rattle.text.specs.Part.{partOf}
-use Rattle.text.specs.Field.{fields, nth, placeOf}
-use Rattle.text.specs.Reading.{Reading, read}
-use Rattle.text.proofs.Parts.{index-le}
-use Rattle.text.proofs.Fields.{field-bytes, field-in}
-use Rattle.numeral.specs.Numeral.{floatOf}
+use Rattle.text.specs.Field.{fields, nth}
+use Rattle.text.specs.Reader.{FieldStartsKeeps}
+use Rattle.text.specs.Reading.{Reading, read, refused, only, need}
+use Rattle.text.specs.says.Number.{saysU8, saysU16, saysU32}
+use Rattle.text.specs.declared.number.ParsedU8.{ParsedU8}
+use Rattle.text.specs.declared.number.ParsedU8.the-variants as U8
+use Rattle.text.specs.declared.number.ParsedU16.{ParsedU16}
+use Rattle.text.specs.declared.number.ParsedU16.the-variants as U16
+use Rattle.text.specs.declared.number.ParsedU32.{ParsedU32}
+use Rattle.text.specs.declared.number.ParsedU32.the-variants.{Is, Not}
+use Rattle.text.proofs.ReaderStarts.{starts-in, starts-past}
+use Rattle.text.proofs.Readings.{only-is, only-else}
+use Rattle.text.proofs.Tests.{never}
+use Rattle.text.proofs.Yields.{yields-only, yields-either, yields-need}
+use Rattle.numeral.specs.Numeral.{floatOf, numeralText}
+use Rattle.numeral.specs.says.Numeral.{says, NumeralKeeps}
+use Rattle.numeral.specs.declared.Numeral.{Numeral}
+use Rattle.numeral.specs.declared.Numeral.the-variants.{Value, Refused}
 use Rattle.unsolicited.specs.Date.{Date, dateOf}
-use Rattle.unsolicited.specs.Gnss.{Position, Motion, Dilution, Satellites, Report, noFix, fix, orZero, floatOrZero, dateOrZero, fixOf, ugnsinfFields, ugnsinfText}
-use Rattle.unsolicited.specs.says.Gnss.{dateSays, dateOptionSays}
+use Rattle.unsolicited.specs.Gnss.{Report, noFix, fix, orZero, floatOrZero, countOrZero, dateOrZero, fixOf, ugnsinfFields, ugnsinfText}
+use Rattle.unsolicited.specs.Places.{Places}
+use Rattle.unsolicited.specs.says.Gnss.{floatSays, countSays, dateSays, dateOptionSays}
 use Rattle.unsolicited.specs.declared.ugnsinf.DateTime.{DateTime}
-use Rattle.unsolicited.specs.declared.ugnsinf.OptionDateTime.{OptionDateTime}
-use Rattle.unsolicited.specs.declared.ugnsinf.OptionDateTime.the-variants.{None, Some}
-use Rattle.unsolicited.proofs.Trials.{Plain, plain-only, plain-either, plain-need}
+use Rattle.unsolicited.specs.declared.ugnsinf.ParsedDateTime.{ParsedDateTime}
+use Rattle.unsolicited.specs.declared.ugnsinf.ParsedDateTime.the-variants.{Is as IsDate, Not as NotDate}
+use Rattle.unsolicited.specs.declared.ugnsinf.Float.{Float as Field}
+use Rattle.unsolicited.specs.declared.ugnsinf.Count.{Count}
+use Rattle.unsolicited.proofs.Trials.{Plain}
 
--- what the code has as the answer r of an enum, which f says on paper, where the paper goes on with what o says
-module _ {R A B : Type 0} (f : R → Option A) where
-  module _ {W : Type 0} (con : W → R) (val : W → A) (is : (w : W) → f (con w) ≡ some (val w)) where
-    pub bound : (o : Option A) (g : A → Option B) (r : R) (w : W) (q : Option B) → f r ≡ o → r ≡ con w → q ≡ g (val w) → q ≡ bind o g
-    unfolding bind
-    bound o g r w q h e p = rw (sym h ∙ ap f e ∙ is w) p
+-- what the numeral's answer says of a float field
+abbrev optionOf : Numeral → Option Float
+optionOf (Value x) = some x
+optionOf Refused = none
 
-  module _ (con : R) (is : f con ≡ none) where
-    pub unbound : (o : Option A) (g : A → Option B) (r : R) → f r ≡ o → r ≡ con → none ≡ bind o g
-    unfolding bind
-    unbound o g r h e = rw (sym h ∙ ap f e ∙ is)
+said : (o : Option Float) (r : Numeral) → says r ≡ need o read → optionOf r ≡ o
+unfolding need
+said none Refused e = refl
+said none (Value x) e = never (cc)
+said (some y) Refused e = never (cc)
+said (some y) (Value x) e = cc
+
+module _ (s : List ℕ) (r : Numeral) (keeps : NumeralKeeps s r) where
+  pub float-read : (x : Float) → r ≡ Value x → some x ≡ floatOf s
+  unfolding numeralText
+  float-read x e = sym (ap optionOf e) ∙ said (floatOf s) r (keeps .exact)
+
+  pub float-none : r ≡ Refused → none ≡ floatOf s
+  unfolding numeralText
+  float-none e = sym (ap optionOf e) ∙ said (floatOf s) r (keeps .exact)
+
+-- and the integer's of a count
+module _ (r : ParsedU32) (o : Option ℕ) (h : saysU32 r ≡ o) where
+  pub count-read : (n : ℕ) → r ≡ Is n → some n ≡ o
+  count-read n e = sym (ap saysU32 e) ∙ h
+
+  pub count-none : r ≡ Not → none ≡ o
+  count-none e = sym (ap saysU32 e) ∙ h
 
 pub without-fix : (o p : Option ℕ) → o ≡ p → _≡_ {A = Reading Report} (read (noFix o)) (read (noFix p))
 without-fix o p e = rw e
 
-pub fixed : (a b : Date) (p : Position) (m : Motion) (d : Dilution) (s : Satellites) → a ≡ b
-    → _≡_ {A = Reading Report} (read (fix (record { date = a; position = p; motion = m; dilution = d; satellites = s })))
-    (read (fix (record { date = b; position = p; motion = m; dilution = d; satellites = s })))
-fixed a b p m d s e = rw e
+-- a value that was read before it is asked for: the test t says whether it is there
+needed : {A B : Type 0} (t : Bool) (v : A) (o : Option A) (f : A → Reading B) → cond t (some v) none ≡ o → need o f ≡ only t (f v)
+unfolding need only
+needed true v o f e = rw (sym e)
+needed false v o f e = rw (sym e)
+
+only-and : {A : Type 0} (a b : Bool) (r : Reading A) → only (a && b) r ≡ only a (only b r)
+unfolding only
+only-and true b r = refl
+only-and false b r = refl
+
+-- `gnss_fix`: twelve of them
+module _ (fs : List (List ℕ)) (la lo al sp co hd pd vd : Field) (iv gn gl ra : Count)
+    (e1 : floatSays la ≡ floatOf (nth 3 fs)) (e2 : floatSays lo ≡ floatOf (nth 4 fs)) (e3 : floatSays al ≡ floatOf (nth 5 fs))
+    (e4 : floatSays sp ≡ floatOrZero (nth 6 fs)) (e5 : floatSays co ≡ floatOrZero (nth 7 fs))
+    (e6 : floatSays hd ≡ floatOrZero (nth 10 fs)) (e7 : floatSays pd ≡ floatOrZero (nth 11 fs)) (e8 : floatSays vd ≡ floatOrZero (nth 12 fs))
+    (e9 : countSays iv ≡ countOrZero (nth 14 fs)) (e10 : countSays gn ≡ countOrZero (nth 15 fs)) (e11 : countSays gl ≡ countOrZero (nth 16 fs)) (e12 : countSays ra ≡ countOrZero (nth 18 fs)) where
+  abbrev good : Bool
+  good = (la .good && lo .good && al .good) && (sp .good && co .good) && (hd .good && pd .good && vd .good) && (iv .good && gn .good && gl .good && ra .good)
+
+  abbrev value : Date → Report
+  value d = fix (record {
+    dateTime = d;
+    latitude = la .value;
+    longitude = lo .value;
+    altitude = al .value;
+    hdop = hd .value;
+    pdop = pd .value;
+    vdop = vd .value;
+    speedOverGround = sp .value;
+    courseOverGround = co .value;
+    satGpsInView = iv .value;
+    satGnssUsed = gn .value;
+    satGlonassUsed = gl .value;
+    signalNoiseRatio = ra .value;
+  })
+
+  fix-is : fixOf fs ≡ only good (read (value (dateOrZero (nth 2 fs))))
+  unfolding fixOf
+  fix-is =
+      rw (needed (la .good) (la .value) _ _ e1, needed (lo .good) (lo .value) _ _ e2, needed (al .good) (al .value) _ _ e3, needed (sp .good) (sp .value) _ _ e4, needed (co .good) (co .value) _ _ e5, needed (hd .good) (hd .value) _ _ e6, needed (pd .good) (pd .value) _ _ e7, needed (vd .good) (vd .value) _ _ e8, needed (iv .good) (iv .value) _ _ e9, needed (gn .good) (gn .value) _ _ e10, needed (gl .good) (gl .value) _ _ e11, needed (ra .good) (ra .value) _ _ e12)
+      (simp only-and)
+
+  pub fix-read : (d : Date) → d ≡ dateOrZero (nth 2 fs) → good ≡ true → read (value d) ≡ fixOf fs
+  unfolding only
+  fix-read d e h = rw (e, fix-is, h)
+
+  pub fix-not : good ≡ false → refused 3 ≡ fixOf fs
+  unfolding only
+  fix-not h = rw (fix-is, h)
 
 -- a date has at least fourteen bytes
 module _ {A : Type 0} (t : List ℕ) (o : Option A) where
@@ -56,15 +130,39 @@ module _ {A : Type 0} (t : List ℕ) (o : Option A) where
   pub long-enough : (q : Option A) → 14 ≤ length t → q ≡ o → q ≡ cond (leb 14 (length t)) o none
   long-enough q h p = rw (le-leb 14 (length t) h) p
 
--- the date that was read, or all zeros
-module _ (t s : List ℕ) (r : OptionDateTime) (says : dateOptionSays r ≡ dateOf t) (is : t ≡ s) where
-  pub date-read : (d : DateTime) → r ≡ Some d → dateSays d ≡ dateOrZero s
-  unfolding dateOrZero
-  date-read d e = rw (← is, ← says, e)
+-- and each of its parts is there, which the code has as the answer of an enum
+module _ (o : Option ℕ) (g : ℕ → Option Date) where
+  bound : (n : ℕ) (q : Option Date) → some n ≡ o → q ≡ g n → q ≡ bind o g
+  unfolding bind
+  bound n q e p = rw (sym e) p
 
-  pub date-zero : r ≡ None → dateSays (record { year = 0; month = 0; day = 0; hour = 0; minute = 0; second = 0 }) ≡ dateOrZero s
+  unbound : none ≡ o → none ≡ bind o g
+  unfolding bind
+  unbound e = rw (sym e)
+
+  pub year-read : (r : ParsedU16) (n : ℕ) (q : Option Date) → saysU16 r ≡ o → r ≡ U16.Is n → q ≡ g n → q ≡ bind o g
+  year-read r n q h e p = bound n q (sym (ap saysU16 e) ∙ h) p
+
+  pub year-none : (r : ParsedU16) → saysU16 r ≡ o → r ≡ U16.Not → none ≡ bind o g
+  year-none r h e = unbound (sym (ap saysU16 e) ∙ h)
+
+  pub pair-read : (r : ParsedU8) (n : ℕ) (q : Option Date) → saysU8 r ≡ o → r ≡ U8.Is n → q ≡ g n → q ≡ bind o g
+  pair-read r n q h e p = bound n q (sym (ap saysU8 e) ∙ h) p
+
+  pub pair-none : (r : ParsedU8) → saysU8 r ≡ o → r ≡ U8.Not → none ≡ bind o g
+  pair-none r h e = unbound (sym (ap saysU8 e) ∙ h)
+
+pub ruleset dates = (long-enough, year-read, year-none, pair-read, pair-none)
+
+-- the date that was read, or all zeros
+module _ (t s : List ℕ) (r : ParsedDateTime) (said : dateOptionSays r ≡ dateOf t) (is : t ≡ s) where
+  pub date-read : (d : DateTime) → r ≡ IsDate d → dateSays d ≡ dateOrZero s
   unfolding dateOrZero
-  date-zero e = rw (← is, ← says, e)
+  date-read d e = rw (← is, ← said, e)
+
+  pub date-zero : r ≡ NotDate → dateSays (record { year = 0; month = 0; day = 0; hour = 0; minute = 0; second = 0 }) ≡ dateOrZero s
+  unfolding dateOrZero
+  date-zero e = rw (← is, ← said, e)
 
 -- a field that may be empty, which the code has under the name t
 module _ {A : Type 0} (z : A) (reads : List ℕ → Option A) (t s : List ℕ) (is : t ≡ s) where
@@ -80,59 +178,33 @@ pub float-empty : (t s : List ℕ) → t ≡ s → length t ≡ 0 → some (ofBi
 unfolding floatOrZero ofBits ofFields
 float-empty t s is h = empty (fin false 0 (pos 0)) floatOf t s is h
 
--- a field begins behind the one before it and its separator
-next : (n : ℕ) (fs : List (List ℕ)) → n < length fs → placeOf (suc n) fs ≡ placeOf n fs + (length (nth n fs) + 1)
-next n [] h = absurd (omega arith)
-next zero (f ∷ fs) h = omega arith
-next (suc n) (f ∷ fs) h = let z : placeOf (suc n) fs ≡ placeOf n fs + (length (nth n fs) + 1) = next n fs (omega arith) in omega arith
+-- the places of all fields, found once: exactly 21 of them
+module _ (s ps : List ℕ) (starts : FieldStartsKeeps s ps) where
+  pub too-few : length s < getD ps 20 0 → refused 3 ≡ ugnsinfFields (fields 44 s)
+  unfolding ugnsinfFields
+  too-few h = only-else (length (fields 44 s)) (length (fields 44 s)) 21 _ refl (λ e. let l = starts-past s ps starts 20 (omega arith) h in omega arith)
 
--- which stands where the first separator from its place on stands
-module _ (s : List ℕ) (n p : ℕ) (at : p ≡ placeOf n (fields 44 s)) where
-  pub bytes-at : partOf s p (p + indexOf 44 (drop p s)) ≡ nth n (fields 44 s)
-  bytes-at = rw at (field-bytes 44 n s)
+  pub too-many : getD ps 21 0 ≤ length s → refused 3 ≡ ugnsinfFields (fields 44 s)
+  unfolding ugnsinfFields
+  too-many h = only-else (length (fields 44 s)) (length (fields 44 s)) 21 _ refl (λ e. let l = starts-in s ps starts 21 (omega arith) h in omega arith)
 
-  pub field-length : length (nth n (fields 44 s)) ≡ indexOf 44 (drop p s)
-  unfolding partOf
-  field-length =
-      let z : p + indexOf 44 (drop p s) - p ≡ indexOf 44 (drop p s) = omega arith in
-      rw (← bytes-at, z) (length-take-le (indexOf 44 (drop p s)) (drop p s) (index-le 44 (drop p s)))
+  pub all-there : getD ps 20 0 ≤ length s → length s < getD ps 21 0 → Places ps s
+  all-there h l = let a = starts-in s ps starts 20 (omega arith) h in let b = starts-past s ps starts 21 (omega arith) l in record { count = omega arith; starts = starts }
 
-  -- `places_of`: the next place, and the end of a field
-  module _ (e : ℕ) (found : e ≡ p + indexOf 44 (drop p s)) (there : n < length (fields 44 s)) where
-    pub next-at : e + 1 ≡ placeOf (n + 1) (fields 44 s)
-    next-at =
-        let i = next n (fields 44 s) there in
-        let l = field-length in
-        let z = ap (λ (m : ℕ). placeOf m (fields 44 s)) (add-one n) in
-        omega arith
-
-    pub end-in : e ≤ length s
-    end-in = let i = field-in 44 n s there in let l = field-length in omega arith
-
-  -- `field_at`: a field ends one byte before the next place
-  module _ (q : ℕ) (behind : q ≡ placeOf (n + 1) (fields 44 s)) (there : n < length (fields 44 s)) where
-    end-before : q ≡ p + indexOf 44 (drop p s) + 1
-    end-before = behind ∙ sym (next-at (p + indexOf 44 (drop p s)) refl there)
-
-    pub is-behind : 1 ≤ q
-    is-behind = let z = end-before in omega arith
-
-    pub field-found : (e : ℕ) (t : List ℕ) → e ≡ q - 1 → t ≡ partOf s p e → t ≡ nth n (fields 44 s)
-    field-found e t b h = let z = end-before in let i : e ≡ p + indexOf 44 (drop p s) = omega arith in h ∙ ap (partOf s p) i ∙ bytes-at
-
--- the places that were found, with one more
-pub one-more : (s ps : List ℕ) (k p : ℕ) → k < length ps → p ≡ placeOf k (fields 44 s) → ((n : ℕ) → n < k → getD ps n 0 ≡ placeOf n (fields 44 s))
-    → (n : ℕ) → n < k + 1 → getD (set ps k p) n 0 ≡ placeOf n (fields 44 s)
-one-more s ps k p l at all =
-    below-more (λ (n : ℕ). getD (set ps k p) n 0 ≡ placeOf n (fields 44 s)) k
-    (λ n h. getD-set-other ps k n p 0 (λ e. omega arith) ∙ all n h)
-    (getD-set-same ps k p 0 l ∙ at)
+  pub there-so : getD ps 20 0 ≤ length s → length s < getD ps 21 0 → (r q : Reading Report) → q ≡ r → q ≡ only (eqb (length (fields 44 s)) 21) r
+  there-so h l r q e = only-is (length (fields 44 s)) (length (fields 44 s)) 21 r q refl (all-there h l .count) e
 
 -- no refusal but 3
+plain-need : {A : Type 0} (o : Option A) (f : A → Reading Report) → ((a : A) → Plain (f a)) → Plain (need o f)
+plain-need o f h = yields-need _ _ o f refl (λ a e. h a)
+
 plain-fix : (fs : List (List ℕ)) → Plain (fixOf fs)
 unfolding fixOf
-plain-fix fs = plain-need _ _ (λ p. plain-need _ _ (λ m. plain-need _ _ (λ d. plain-need _ _ (λ s. tt))))
+plain-fix fs =
+    plain-need _ _ (λ a. plain-need _ _ (λ b. plain-need _ _ (λ c. plain-need _ _ (λ d. plain-need _ _ (λ e. plain-need _ _ (λ f.
+    plain-need _ _ (λ g. plain-need _ _ (λ h. plain-need _ _ (λ i. plain-need _ _ (λ j. plain-need _ _ (λ k. plain-need _ _ (λ l. tt))))))))))))
 
 pub plain-ugnsinf : (s : List ℕ) → Plain (ugnsinfText s)
 unfolding ugnsinfText ugnsinfFields
-plain-ugnsinf s = plain-only _ _ (plain-only _ _ (plain-either _ _ _ (plain-either _ _ _ (plain-fix (fields 44 (drop 10 s))) tt) tt))
+plain-ugnsinf s =
+    yields-only _ _ _ _ refl (λ e. yields-only _ _ _ _ refl (λ e. yields-either _ _ _ _ _ (λ e. yields-either _ _ _ _ _ (λ e. plain-fix (fields 44 (drop 10 s))) (λ e. tt)) (λ e. tt)))

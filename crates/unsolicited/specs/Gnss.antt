@@ -2,7 +2,7 @@
 use Prim.Native.Nat.{ℕ}
 use mathlib.Core.Bool.{false, cond}
 use mathlib.Core.List.{List}
-use mathlib.Core.Option.{Option, none, some, bind, Option·getD}
+use mathlib.Core.Option.{Option, none, some, Option·getD}
 use lib.Dec.{eqb}
 use lib.Ieee.{Float, fin}
 use lib.IntN.{pos}
@@ -14,33 +14,21 @@ use Rattle.text.specs.Reading.{Reading, read, only, either, need}
 use Rattle.numeral.specs.Numeral.{floatOf}
 use Rattle.unsolicited.specs.Date.{Date, dateOf}
 
-pub record Position : Type 0 where
+-- a fix: the dilutions of precision are horizontal, of the position and vertical
+pub record Fix : Type 0 where
+  pub dateTime : Date
   pub latitude : Float
   pub longitude : Float
   pub altitude : Float
-
-pub record Motion : Type 0 where
-  pub speed : Float
-  pub course : Float
-
--- dilution of precision: horizontal, of the position, vertical
-pub record Dilution : Type 0 where
   pub hdop : Float
   pub pdop : Float
   pub vdop : Float
-
-pub record Satellites : Type 0 where
-  pub gpsInView : ℕ
-  pub gnssUsed : ℕ
-  pub glonassUsed : ℕ
+  pub speedOverGround : Float
+  pub courseOverGround : Float
+  pub satGpsInView : ℕ
+  pub satGnssUsed : ℕ
+  pub satGlonassUsed : ℕ
   pub signalNoiseRatio : ℕ
-
-pub record Fix : Type 0 where
-  pub date : Date
-  pub position : Position
-  pub motion : Motion
-  pub dilution : Dilution
-  pub satellites : Satellites
 
 pub data Report : Type 0 where
   notEnabled : Report
@@ -62,43 +50,36 @@ countOrZero = orZero 0 (unsigned 10 4294967295)
 unfoldable pub dateOrZero : List ℕ → Date
 dateOrZero t = Option·getD (dateOf t) (record { year = 0; month = 0; day = 0; hour = 0; minute = 0; second = 0 })
 
--- required
-unfoldable pub positionOf : List (List ℕ) → Option Position
-positionOf fs =
-    bind (floatOf (nth 3 fs)) (λ latitude.
-    bind (floatOf (nth 4 fs)) (λ longitude.
-    bind (floatOf (nth 5 fs)) (λ altitude.
-    some (record { latitude = latitude; longitude = longitude; altitude = altitude }))))
-
--- the rest, where empty is zero
-unfoldable pub motionOf : List (List ℕ) → Option Motion
-motionOf fs =
-    bind (floatOrZero (nth 6 fs)) (λ speed.
-    bind (floatOrZero (nth 7 fs)) (λ course.
-    some (record { speed = speed; course = course })))
-
-unfoldable pub dilutionOf : List (List ℕ) → Option Dilution
-dilutionOf fs =
-    bind (floatOrZero (nth 10 fs)) (λ hdop.
-    bind (floatOrZero (nth 11 fs)) (λ pdop.
-    bind (floatOrZero (nth 12 fs)) (λ vdop.
-    some (record { hdop = hdop; pdop = pdop; vdop = vdop }))))
-
-unfoldable pub satellitesOf : List (List ℕ) → Option Satellites
-satellitesOf fs =
-    bind (countOrZero (nth 14 fs)) (λ gpsInView.
-    bind (countOrZero (nth 15 fs)) (λ gnssUsed.
-    bind (countOrZero (nth 16 fs)) (λ glonassUsed.
-    bind (countOrZero (nth 18 fs)) (λ signalNoiseRatio.
-    some (record { gpsInView = gpsInView; gnssUsed = gnssUsed; glonassUsed = glonassUsed; signalNoiseRatio = signalNoiseRatio })))))
-
+-- three that are required, then the rest, where empty is zero
 unfoldable pub fixOf : List (List ℕ) → Reading Report
 fixOf fs =
-    need (positionOf fs) (λ p.
-    need (motionOf fs) (λ m.
-    need (dilutionOf fs) (λ d.
-    need (satellitesOf fs) (λ s.
-    read (fix (record { date = dateOrZero (nth 2 fs); position = p; motion = m; dilution = d; satellites = s }))))))
+    need (floatOf (nth 3 fs)) (λ latitude.
+    need (floatOf (nth 4 fs)) (λ longitude.
+    need (floatOf (nth 5 fs)) (λ altitude.
+    need (floatOrZero (nth 6 fs)) (λ speed.
+    need (floatOrZero (nth 7 fs)) (λ course.
+    need (floatOrZero (nth 10 fs)) (λ hdop.
+    need (floatOrZero (nth 11 fs)) (λ pdop.
+    need (floatOrZero (nth 12 fs)) (λ vdop.
+    need (countOrZero (nth 14 fs)) (λ inView.
+    need (countOrZero (nth 15 fs)) (λ gnss.
+    need (countOrZero (nth 16 fs)) (λ glonass.
+    need (countOrZero (nth 18 fs)) (λ ratio.
+    read (fix (record {
+      dateTime = dateOrZero (nth 2 fs);
+      latitude = latitude;
+      longitude = longitude;
+      altitude = altitude;
+      hdop = hdop;
+      pdop = pdop;
+      vdop = vdop;
+      speedOverGround = speed;
+      courseOverGround = course;
+      satGpsInView = inView;
+      satGnssUsed = gnss;
+      satGlonassUsed = glonass;
+      signalNoiseRatio = ratio;
+    }))))))))))))))
 
 -- run status "1" is enabled, and fix status "1" a fix; without one, satellites in view are none if unreadable
 unfoldable pub ugnsinfFields : List (List ℕ) → Reading Report

@@ -13,11 +13,10 @@ use text::part;
 use text::reader;
 ghost use mathlib.Core.Path.{_≡_};
 ghost use Rattle.text.specs.Field.{fields};
-ghost use Rattle.text.specs.Line.{checked};
 ghost use Rattle.text.specs.Number.{signed};
 ghost use Rattle.text.specs.says.Number.{saysI32};
 ghost use Rattle.unsolicited.specs.Registration.{ceregStatus, ceregFields, ceregText};
-ghost use Rattle.unsolicited.specs.says.Registration.{says};
+ghost use Rattle.unsolicited.specs.says.Registration.{says, RegistrationKeeps};
 
 pub struct CEReg;
 
@@ -60,7 +59,7 @@ impl CEReg {
     }
 
     pub fn from_line(line: &[u8]) -> NetworkRegistrationAnswer
-        ensures { λ r. ⌜ says r ≡ checked ceregText (now (line .entry)) ⌝ }
+        ensures { λ r. ⌜ RegistrationKeeps ceregText (now (line .entry)) r ⌝ }
     {
         let k = line::check_line(line);
         if k != 0 {

@@ -5,9 +5,8 @@ use text::bytes;
 use text::line;
 use text::part;
 ghost use mathlib.Core.Path.{_≡_};
-ghost use Rattle.text.specs.Line.{checked};
 ghost use Rattle.unsolicited.specs.Registration.{cregText};
-ghost use Rattle.unsolicited.specs.says.Registration.{says};
+ghost use Rattle.unsolicited.specs.says.Registration.{says, RegistrationKeeps};
 
 pub struct CReg;
 
@@ -22,7 +21,7 @@ impl CReg {
     }
 
     pub fn from_line(line: &[u8]) -> NetworkRegistrationAnswer
-        ensures { λ r. ⌜ says r ≡ checked cregText (now (line .entry)) ⌝ }
+        ensures { λ r. ⌜ RegistrationKeeps cregText (now (line .entry)) r ⌝ }
     {
         let k = line::check_line(line);
         if k != 0 {

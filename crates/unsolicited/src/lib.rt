@@ -12,9 +12,9 @@ use crate::ugnsinf::GnssReportAnswer;
 use text::bytes;
 use text::line;
 ghost use mathlib.Core.Path.{_≡_};
-ghost use Rattle.text.specs.Line.{checked};
+ghost use Rattle.text.specs.Gives.{Gives};
 ghost use Rattle.unsolicited.specs.Urc.{begins, urcText};
-ghost use Rattle.unsolicited.specs.says.Urc.{says};
+ghost use Rattle.unsolicited.specs.says.Urc.{says, UrcKeeps};
 
 pub enum Urc {
     GnssReport(GnssReport),
@@ -43,7 +43,7 @@ impl Urc {
 
     // Whether the line begins as an unsolicited one does: a caller need not ask the readers of any other.
     pub fn begins(line: &[u8]) -> bool
-        ensures { λ r. ⌜ r ≡ begins (now (line .entry)) ⌝ }
+        ensures { λ r. ⌜ Gives (begins (now (line .entry))) r ⌝ }
     {
         if bytes::starts_with(line, b"+UGNSINF: ") {
             return true;
@@ -58,7 +58,7 @@ impl Urc {
     }
 
     pub fn from_line(line: &[u8]) -> UrcAnswer
-        ensures { λ r. ⌜ says r ≡ checked urcText (now (line .entry)) ⌝ }
+        ensures { λ r. ⌜ UrcKeeps (now (line .entry)) r ⌝ }
     {
         let k = line::check_line(line);
         if k != 0 {

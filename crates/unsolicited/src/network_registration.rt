@@ -14,10 +14,9 @@ ghost use mathlib.Core.Path.{_≡_};
 ghost use mathlib.Core.List.{[], _∷_};
 ghost use Prim.Native.Nat.{_≤_};
 ghost use Rattle.text.specs.Field.{fields, nth};
-ghost use Rattle.text.specs.Line.{checked};
 ghost use Rattle.text.specs.says.Number.{saysU16, saysU32};
 ghost use Rattle.unsolicited.specs.Registration.{statusOf, hexIn, registrationAt, registrationFields, registrationText};
-ghost use Rattle.unsolicited.specs.says.Registration.{statusNumber, says};
+ghost use Rattle.unsolicited.specs.says.Registration.{statusNumber, says, RegistrationKeeps};
 
 pub enum RegistrationStatus {
     NotRegistered,
@@ -89,9 +88,9 @@ fn registration_at(rest: &[u8], n: usize) -> NetworkRegistrationAnswer
     })
 }
 
-// Reads what follows the prefix, of at most 5 fields or of exactly `most`.
-pub(crate) fn registration(rest: &[u8], most: usize) -> NetworkRegistrationAnswer
-    ensures { λ r. ⌜ says r ≡ registrationFields (2 ∷ 5 ∷ most ∷ []) (fields 44 (now (rest .entry))) ⌝ }
+// Reads what follows the prefix: of 1 or 4 fields the status is the first; of 2, of 5 and of the longest line's one field is skipped.
+pub(crate) fn registration(rest: &[u8], longest: usize) -> NetworkRegistrationAnswer
+    ensures { λ r. ⌜ says r ≡ registrationFields (2 ∷ 5 ∷ longest ∷ []) (fields 44 (now (rest .entry))) ⌝ }
 {
     let count = field::field_count(rest, b',');
     if count == 1 {
@@ -106,7 +105,7 @@ pub(crate) fn registration(rest: &[u8], most: usize) -> NetworkRegistrationAnswe
     if count == 5 {
         return registration_at(rest, 1);
     }
-    if count == most {
+    if count == longest {
         return registration_at(rest, 1);
     }
     NetworkRegistrationAnswer::Refused(3)
@@ -126,7 +125,7 @@ impl NetworkRegistration {
     }
 
     pub fn from_line(line: &[u8]) -> NetworkRegistrationAnswer
-        ensures { λ r. ⌜ says r ≡ checked registrationText (now (line .entry)) ⌝ }
+        ensures { λ r. ⌜ RegistrationKeeps registrationText (now (line .entry)) r ⌝ }
     {
         let k = line::check_line(line);
         if k != 0 {

@@ -1,26 +1,23 @@
 // +UGNSINF: the report of the satellite receiver.
 use numeral::Numeral;
 use text::bytes;
-use text::field;
 use text::line;
 use text::number;
 use text::number::ParsedU8;
 use text::number::ParsedU16;
 use text::number::ParsedU32;
 use text::part;
+use text::reader;
 ghost use mathlib.Core.Path.{_≡_};
 ghost use Prim.Native.Nat.{_≤_, _<_};
-ghost use lib.ListN.{length};
 ghost use Rattle.text.specs.Bytes.{bytes, same};
 ghost use Rattle.text.specs.Field.{fields, nth};
-ghost use Rattle.text.specs.Line.{checked};
-ghost use Rattle.text.specs.says.Number.{saysU8, saysU16, saysU32};
+ghost use Rattle.text.specs.says.Number.{saysU8, saysU16};
 ghost use Rattle.numeral.specs.Numeral.{floatOf};
-ghost use Rattle.numeral.specs.Told.{told};
-ghost use Rattle.unsolicited.specs.Date.{yearOf, pairAt, dateOf};
+ghost use Rattle.unsolicited.specs.Date.{yearOf, pairAt};
 ghost use Rattle.unsolicited.specs.Places.{Places};
-ghost use Rattle.unsolicited.specs.Gnss.{floatOrZero, countOrZero, dateOrZero, positionOf, motionOf, dilutionOf, satellitesOf, fixOf, ugnsinfFields, ugnsinfText};
-ghost use Rattle.unsolicited.specs.says.Gnss.{dateSays, dateOptionSays, positionOptionSays, motionOptionSays, dilutionOptionSays, satellitesOptionSays, says};
+ghost use Rattle.unsolicited.specs.Gnss.{floatOrZero, countOrZero, dateOrZero, fixOf, ugnsinfFields, ugnsinfText};
+ghost use Rattle.unsolicited.specs.says.Gnss.{floatSays, countSays, dateSays, says, DateKeeps, GnssReportKeeps};
 
 pub struct DateTime {
     pub year: u16,
@@ -31,9 +28,9 @@ pub struct DateTime {
     pub second: u8,
 }
 
-pub enum OptionDateTime {
-    None,
-    Some(DateTime),
+pub enum ParsedDateTime {
+    Is(DateTime),
+    Not,
 }
 
 fn year_of(s: &[u8]) -> ParsedU16
@@ -51,32 +48,32 @@ fn pair(s: &[u8], at: usize) -> ParsedU8
 }
 
 impl DateTime {
-    // A cut inside a character leaves a byte that is no digit.
-    pub fn new(time_string: &[u8]) -> OptionDateTime
-        ensures { λ r. ⌜ dateOptionSays r ≡ dateOf (now («time_string» .entry)) ⌝ }
+    // A cut inside a character leaves a byte that is no digit (proofs/DateCuts).
+    pub fn new(time_string: &[u8]) -> ParsedDateTime
+        ensures { λ r. ⌜ DateKeeps (now («time_string» .entry)) r ⌝ }
     {
         if time_string.len() < 14 {
-            return OptionDateTime::None;
+            return ParsedDateTime::Not;
         }
         let ParsedU16::Is(year) = year_of(time_string) else {
-            return OptionDateTime::None;
+            return ParsedDateTime::Not;
         };
         let ParsedU8::Is(month) = pair(time_string, 4) else {
-            return OptionDateTime::None;
+            return ParsedDateTime::Not;
         };
         let ParsedU8::Is(day) = pair(time_string, 6) else {
-            return OptionDateTime::None;
+            return ParsedDateTime::Not;
         };
         let ParsedU8::Is(hour) = pair(time_string, 8) else {
-            return OptionDateTime::None;
+            return ParsedDateTime::Not;
         };
         let ParsedU8::Is(minute) = pair(time_string, 10) else {
-            return OptionDateTime::None;
+            return ParsedDateTime::Not;
         };
         let ParsedU8::Is(second) = pair(time_string, 12) else {
-            return OptionDateTime::None;
+            return ParsedDateTime::Not;
         };
-        OptionDateTime::Some(DateTime {
+        ParsedDateTime::Is(DateTime {
             year,
             month,
             day,
@@ -114,22 +111,6 @@ pub enum GnssReportAnswer {
     Refused(u8),
 }
 
-// Where each of the 21 fields begins, and where a next one would.
-fn places_of(rest: &[u8]) -> [usize; 22]
-    requires { ⌜ length (fields 44 (now rest)) ≡ 21 ⌝ }
-    ensures { λ r. ⌜ Places r (now (rest .entry)) ⌝ }
-{
-    let mut places = [0usize; 22];
-    let mut at = 0;
-    let mut k = 0;
-    while k < 21 {
-        at = bytes::find(rest, at, b',') + 1;
-        k += 1;
-        places[k] = at;
-    }
-    places
-}
-
 fn field_at<'a>(rest: &'a [u8], places: &[usize; 22], n: usize) -> &'a [u8]
     requires { ⌜ Places (now places) (now rest) × (n < 21) ⌝ }
     ensures { λ r. ⌜ now r ≡ nth n (fields 44 (now (rest .entry))) ⌝ }
@@ -146,33 +127,68 @@ fn is_one(rest: &[u8], places: &[usize; 22], n: usize) -> bool
     bytes::is_text(field_at(rest, places, n), b"1")
 }
 
-fn float_at(rest: &[u8], places: &[usize; 22], n: usize) -> Numeral
-    requires { ⌜ Places (now places) (now rest) × (n < 21) ⌝ }
-    ensures { λ r. ⌜ told r ≡ floatOf (nth n (fields 44 (now (rest .entry)))) ⌝ }
-{
-    numeral::read(field_at(rest, places, n))
+// What a field says, and whether it is readable.
+struct Float {
+    good: bool,
+    value: f32,
 }
 
-fn float_or_zero(rest: &[u8], places: &[usize; 22], n: usize) -> Numeral
+struct Count {
+    good: bool,
+    value: u32,
+}
+
+fn float_of(t: &[u8]) -> Float
+    ensures { λ r. ⌜ floatSays r ≡ floatOf (now (t .entry)) ⌝ }
+{
+    match numeral::read(t) {
+        Numeral::Value(value) => Float { good: true, value },
+        Numeral::Refused => Float {
+            good: false,
+            value: 0.0,
+        },
+    }
+}
+
+fn float_at(rest: &[u8], places: &[usize; 22], n: usize) -> Float
     requires { ⌜ Places (now places) (now rest) × (n < 21) ⌝ }
-    ensures { λ r. ⌜ told r ≡ floatOrZero (nth n (fields 44 (now (rest .entry)))) ⌝ }
+    ensures { λ r. ⌜ floatSays r ≡ floatOf (nth n (fields 44 (now (rest .entry)))) ⌝ }
+{
+    float_of(field_at(rest, places, n))
+}
+
+fn float_or_zero(rest: &[u8], places: &[usize; 22], n: usize) -> Float
+    requires { ⌜ Places (now places) (now rest) × (n < 21) ⌝ }
+    ensures { λ r. ⌜ floatSays r ≡ floatOrZero (nth n (fields 44 (now (rest .entry)))) ⌝ }
 {
     let t = field_at(rest, places, n);
     if t.len() == 0 {
-        return Numeral::Value(0.0);
+        return Float {
+            good: true,
+            value: 0.0,
+        };
     }
-    numeral::read(t)
+    float_of(t)
 }
 
-fn count_or_zero(rest: &[u8], places: &[usize; 22], n: usize) -> ParsedU32
+fn count_or_zero(rest: &[u8], places: &[usize; 22], n: usize) -> Count
     requires { ⌜ Places (now places) (now rest) × (n < 21) ⌝ }
-    ensures { λ r. ⌜ saysU32 r ≡ countOrZero (nth n (fields 44 (now (rest .entry)))) ⌝ }
+    ensures { λ r. ⌜ countSays r ≡ countOrZero (nth n (fields 44 (now (rest .entry)))) ⌝ }
 {
     let t = field_at(rest, places, n);
     if t.len() == 0 {
-        return ParsedU32::Is(0);
+        return Count {
+            good: true,
+            value: 0,
+        };
     }
-    number::parse_u32(t)
+    match number::parse_u32(t) {
+        ParsedU32::Is(value) => Count { good: true, value },
+        ParsedU32::Not => Count {
+            good: false,
+            value: 0,
+        },
+    }
 }
 
 fn date_or_zero(rest: &[u8], places: &[usize; 22]) -> DateTime
@@ -180,8 +196,8 @@ fn date_or_zero(rest: &[u8], places: &[usize; 22]) -> DateTime
     ensures { λ r. ⌜ dateSays r ≡ dateOrZero (nth 2 (fields 44 (now (rest .entry)))) ⌝ }
 {
     match DateTime::new(field_at(rest, places, 2)) {
-        OptionDateTime::Some(date) => date,
-        OptionDateTime::None => DateTime {
+        ParsedDateTime::Is(date) => date,
+        ParsedDateTime::Not => DateTime {
             year: 0,
             month: 0,
             day: 0,
@@ -192,164 +208,58 @@ fn date_or_zero(rest: &[u8], places: &[usize; 22]) -> DateTime
     }
 }
 
-struct Position {
-    latitude: f32,
-    longitude: f32,
-    altitude: f32,
-}
-
-enum OptionPosition {
-    None,
-    Some(Position),
-}
-
-fn position_of(rest: &[u8], places: &[usize; 22]) -> OptionPosition
-    requires { ⌜ Places (now places) (now rest) ⌝ }
-    ensures { λ r. ⌜ positionOptionSays r ≡ positionOf (fields 44 (now (rest .entry))) ⌝ }
-{
-    let Numeral::Value(latitude) = float_at(rest, places, 3) else {
-        return OptionPosition::None;
-    };
-    let Numeral::Value(longitude) = float_at(rest, places, 4) else {
-        return OptionPosition::None;
-    };
-    let Numeral::Value(altitude) = float_at(rest, places, 5) else {
-        return OptionPosition::None;
-    };
-    OptionPosition::Some(Position {
-        latitude,
-        longitude,
-        altitude,
-    })
-}
-
-struct Motion {
-    speed: f32,
-    course: f32,
-}
-
-enum OptionMotion {
-    None,
-    Some(Motion),
-}
-
-fn motion_of(rest: &[u8], places: &[usize; 22]) -> OptionMotion
-    requires { ⌜ Places (now places) (now rest) ⌝ }
-    ensures { λ r. ⌜ motionOptionSays r ≡ motionOf (fields 44 (now (rest .entry))) ⌝ }
-{
-    let Numeral::Value(speed) = float_or_zero(rest, places, 6) else {
-        return OptionMotion::None;
-    };
-    let Numeral::Value(course) = float_or_zero(rest, places, 7) else {
-        return OptionMotion::None;
-    };
-    OptionMotion::Some(Motion { speed, course })
-}
-
-struct Dilution {
-    hdop: f32,
-    pdop: f32,
-    vdop: f32,
-}
-
-enum OptionDilution {
-    None,
-    Some(Dilution),
-}
-
-fn dilution_of(rest: &[u8], places: &[usize; 22]) -> OptionDilution
-    requires { ⌜ Places (now places) (now rest) ⌝ }
-    ensures { λ r. ⌜ dilutionOptionSays r ≡ dilutionOf (fields 44 (now (rest .entry))) ⌝ }
-{
-    let Numeral::Value(hdop) = float_or_zero(rest, places, 10) else {
-        return OptionDilution::None;
-    };
-    let Numeral::Value(pdop) = float_or_zero(rest, places, 11) else {
-        return OptionDilution::None;
-    };
-    let Numeral::Value(vdop) = float_or_zero(rest, places, 12) else {
-        return OptionDilution::None;
-    };
-    OptionDilution::Some(Dilution { hdop, pdop, vdop })
-}
-
-struct Satellites {
-    in_view: u32,
-    gnss_used: u32,
-    glonass_used: u32,
-    noise: u32,
-}
-
-enum OptionSatellites {
-    None,
-    Some(Satellites),
-}
-
-fn satellites_of(rest: &[u8], places: &[usize; 22]) -> OptionSatellites
-    requires { ⌜ Places (now places) (now rest) ⌝ }
-    ensures { λ r. ⌜ satellitesOptionSays r ≡ satellitesOf (fields 44 (now (rest .entry))) ⌝ }
-{
-    let ParsedU32::Is(in_view) = count_or_zero(rest, places, 14) else {
-        return OptionSatellites::None;
-    };
-    let ParsedU32::Is(gnss_used) = count_or_zero(rest, places, 15) else {
-        return OptionSatellites::None;
-    };
-    let ParsedU32::Is(glonass_used) = count_or_zero(rest, places, 16) else {
-        return OptionSatellites::None;
-    };
-    let ParsedU32::Is(noise) = count_or_zero(rest, places, 18) else {
-        return OptionSatellites::None;
-    };
-    OptionSatellites::Some(Satellites {
-        in_view,
-        gnss_used,
-        glonass_used,
-        noise,
-    })
-}
-
+// All values are read before they are asked for: one that is unreadable refuses the line, whichever it is.
 fn gnss_fix(rest: &[u8], places: &[usize; 22]) -> GnssReportAnswer
     requires { ⌜ Places (now places) (now rest) ⌝ }
     ensures { λ r. ⌜ says r ≡ fixOf (fields 44 (now (rest .entry))) ⌝ }
 {
-    let OptionPosition::Some(p) = position_of(rest, places) else {
-        return GnssReportAnswer::Refused(3);
-    };
-    let OptionMotion::Some(m) = motion_of(rest, places) else {
-        return GnssReportAnswer::Refused(3);
-    };
-    let OptionDilution::Some(d) = dilution_of(rest, places) else {
-        return GnssReportAnswer::Refused(3);
-    };
-    let OptionSatellites::Some(s) = satellites_of(rest, places) else {
-        return GnssReportAnswer::Refused(3);
-    };
-    GnssReportAnswer::Value(GnssReport::Fix(GnssFix {
-        date_time: date_or_zero(rest, places),
-        latitude: p.latitude,
-        longitude: p.longitude,
-        altitude: p.altitude,
-        hdop: d.hdop,
-        pdop: d.pdop,
-        vdop: d.vdop,
-        speed_over_ground: m.speed,
-        course_over_ground: m.course,
-        sat_gps_in_view: s.in_view,
-        sat_gnss_used: s.gnss_used,
-        sat_glonass_used: s.glonass_used,
-        signal_noise_ratio: s.noise,
-    }))
+    let latitude = float_at(rest, places, 3);
+    let longitude = float_at(rest, places, 4);
+    let altitude = float_at(rest, places, 5);
+    let speed = float_or_zero(rest, places, 6);
+    let course = float_or_zero(rest, places, 7);
+    let hdop = float_or_zero(rest, places, 10);
+    let pdop = float_or_zero(rest, places, 11);
+    let vdop = float_or_zero(rest, places, 12);
+    let in_view = count_or_zero(rest, places, 14);
+    let gnss = count_or_zero(rest, places, 15);
+    let glonass = count_or_zero(rest, places, 16);
+    let ratio = count_or_zero(rest, places, 18);
+    let position = latitude.good & longitude.good & altitude.good;
+    let motion = speed.good & course.good;
+    let dilution = hdop.good & pdop.good & vdop.good;
+    let satellites = in_view.good & gnss.good & glonass.good & ratio.good;
+    if position & motion & dilution & satellites {
+        return GnssReportAnswer::Value(GnssReport::Fix(GnssFix {
+            date_time: date_or_zero(rest, places),
+            latitude: latitude.value,
+            longitude: longitude.value,
+            altitude: altitude.value,
+            hdop: hdop.value,
+            pdop: pdop.value,
+            vdop: vdop.value,
+            speed_over_ground: speed.value,
+            course_over_ground: course.value,
+            sat_gps_in_view: in_view.value,
+            sat_gnss_used: gnss.value,
+            sat_glonass_used: glonass.value,
+            signal_noise_ratio: ratio.value,
+        }));
+    }
+    GnssReportAnswer::Refused(3)
 }
 
-// Reads what follows the prefix.
+// Reads what follows the prefix: there are exactly 21 fields where the last begins within it and a next one does not.
 fn gnss_report(rest: &[u8]) -> GnssReportAnswer
     ensures { λ r. ⌜ says r ≡ ugnsinfFields (fields 44 (now (rest .entry))) ⌝ }
 {
-    if field::field_count(rest, b',') != 21 {
+    let places = reader::field_starts(rest);
+    if rest.len() < places[20] {
         return GnssReportAnswer::Refused(3);
     }
-    let places = places_of(rest);
+    if places[21] <= rest.len() {
+        return GnssReportAnswer::Refused(3);
+    }
     if !is_one(rest, &places, 0) {
         return GnssReportAnswer::Value(GnssReport::NotEnabled);
     }
@@ -372,7 +282,7 @@ impl GnssReport {
     }
 
     pub fn from_line(line: &[u8]) -> GnssReportAnswer
-        ensures { λ r. ⌜ says r ≡ checked ugnsinfText (now (line .entry)) ⌝ }
+        ensures { λ r. ⌜ GnssReportKeeps (now (line .entry)) r ⌝ }
     {
         let k = line::check_line(line);
         if k != 0 {

@@ -1,15 +1,14 @@
 -- Where the time stands. Assumes nothing.
-use mathlib.Core.Path.{_≡_, refl, ap, sym, _∙_}
-use mathlib.Core.Bool.{Bool, true, false, not}
+use mathlib.Core.Path.{_≡_, ap, sym, _∙_}
+use mathlib.Core.Bool.{Bool, false, not}
 use mathlib.Core.List.{List}
 use mathlib.Core.Option.{some}
-use Prim.Native.Nat.{ℕ, _+_, _-_, _≤_, _<_}
+use Prim.Native.Nat.{ℕ, _+_, _-_, _<_}
 use native.Mathlib.Omega.{arith}
 use lib.ListN.{length, drop, length-drop}
-use lib.Dec.{ltb}
 use borrow.Author.Tests.{ltb-true, not-false}
 use Rattle.text.specs.Bytes.{indexOf, has}
-use Rattle.text.specs.Part.{Span, spanOf, after}
+use Rattle.text.specs.Part.{spanOf, after}
 use Rattle.text.specs.Reading.{Reading, read}
 use Rattle.at_command.specs.Cntp.{NetTime}
 

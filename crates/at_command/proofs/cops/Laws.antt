@@ -1,16 +1,16 @@
 -- The field or the fallback text. Assumes nothing.
-use mathlib.Core.Path.{_≡_, refl, ap, sym, _∙_, subst}
+use mathlib.Core.Path.{_≡_, ap, _∙_, subst}
 use mathlib.Core.List.{List, [], _∷_}
 use Prim.Native.Nat.{ℕ, _+_, _≤_, _<_}
 use native.Mathlib.Nat.{zero-add}
 use lib.ListN.{length, drop}
 use borrow.Author.Tests.{lt-ltb, le-ltb}
-use denote.Ref.{RefT, now, ptr}
+use denote.Ref.{RefT, now}
 use Rattle.text.specs.Part.{IsPart, Span, trimmed, trimPlace}
 use Rattle.text.specs.Field.{fields, nth, placeOf}
 use Rattle.text.specs.Reading.{Reading, read}
 use Rattle.text.proofs.Trims.{trim-in}
-use Rattle.at_command.specs.Unquoted.{unquotedField, unquotedSpan}
+use Rattle.at_command.specs.Unquoted.{unquotedField}
 use Rattle.at_command.specs.Cops.{FieldOr, fieldOr, Name, inLine, inFallback, nameOf, Operator}
 
 module _ (t fallback : RefT (List ℕ)) (n k : ℕ) (count : k ≡ length (fields 44 (now t))) where

@@ -1,27 +1,20 @@
 -- The check digit, digit by digit. Assumes nothing.
 use mathlib.Core.Path.{_≡_, refl, ap, sym, _∙_}
-use mathlib.Core.Bool.{Bool, true, false, cond, not, _&&_}
+use mathlib.Core.Bool.{Bool, true, false, not, _&&_}
 use mathlib.Core.List.{List, [], _∷_}
-use Prim.Native.Nat.{ℕ, zero, suc, _+_, _-_, _*_, _/_, _%_, _≤_, _<_}
+use Prim.Native.Nat.{ℕ, zero, suc, _+_, _-_, _%_, _≤_, _<_}
 use native.Mathlib.Nat.{zero-add}
 use native.Mathlib.Omega.{arith}
 use lib.Dec.{eqb, leb}
 use lib.ListN.{length, getD, take, drop, length-take}
 use borrow.Author.Tests.{leb-true, eq-eqb, ne-eqb, not-false}
 use Rattle.text.specs.Bytes.{within, allDigits}
-use Rattle.text.proofs.Rest.{at-next, at-end}
+use Rattle.text.proofs.AtIndex.{at-next, at-end}
+use Rattle.text.proofs.Tests.{and-left, and-right}
 use Rattle.text.specs.Part.{Span, spanOf, partOf}
 use Rattle.text.specs.Reading.{Reading, read, refused, only}
 use Rattle.text.proofs.Parts.{from-start}
-use Rattle.at_command.specs.Gsn.{doubled, luhn, checkDigit, imeiText}
-
-and-l : (a b : Bool) → a && b ≡ true → a ≡ true
-and-l true b h = refl
-and-l false b h = h
-
-and-r : (a b : Bool) → a && b ≡ true → b ≡ true
-and-r true b h = h
-and-r false b h = absurd (let z : _≡_ {A = ℕ} 0 1 = cc in omega arith)
+use Rattle.at_command.specs.Gsn.{doubled, luhn, checkDigit}
 
 -- a byte of digits is a digit
 module _ (s : List ℕ) (i : ℕ) (inv : allDigits (drop i s) ≡ true) (h : i < length s) where
@@ -29,13 +22,13 @@ module _ (s : List ℕ) (i : ℕ) (inv : allDigits (drop i s) ≡ true) (h : i <
   split = ap allDigits (sym (at-next s i h)) ∙ inv
 
   pub is-low : 48 ≤ getD s i 0
-  is-low = leb-true 48 (getD s i 0) (and-l (leb 48 (getD s i 0)) (leb (getD s i 0) 57) (and-l (within 48 57 (getD s i 0)) _ split))
+  is-low = leb-true 48 (getD s i 0) (and-left (leb 48 (getD s i 0)) (leb (getD s i 0) 57) (and-left (within 48 57 (getD s i 0)) _ split))
 
   pub is-high : getD s i 0 ≤ 57
-  is-high = leb-true (getD s i 0) 57 (and-r (leb 48 (getD s i 0)) (leb (getD s i 0) 57) (and-l (within 48 57 (getD s i 0)) _ split))
+  is-high = leb-true (getD s i 0) 57 (and-right (leb 48 (getD s i 0)) (leb (getD s i 0) 57) (and-left (within 48 57 (getD s i 0)) _ split))
 
   pub digits-on : allDigits (drop (i + 1) s) ≡ true
-  digits-on = and-r (within 48 57 (getD s i 0)) _ split
+  digits-on = and-right (within 48 57 (getD s i 0)) _ split
 
 -- `check_digit`
 module _ (s : List ℕ) (i sum : ℕ) where
@@ -65,12 +58,12 @@ doubled-le d h = omega arith
 front : (n : ℕ) (s : List ℕ) → allDigits s ≡ true → allDigits (take n s) ≡ true
 front zero s h = refl
 front (suc n) [] h = refl
-front (suc n) (x ∷ s) h = rw (and-l (within 48 57 x) (allDigits s) h) (front n s (and-r (within 48 57 x) (allDigits s) h))
+front (suc n) (x ∷ s) h = rw (and-left (within 48 57 x) (allDigits s) h) (front n s (and-right (within 48 57 x) (allDigits s) h))
 
 back : (n : ℕ) (s : List ℕ) → allDigits s ≡ true → allDigits (drop n s) ≡ true
 back zero s h = h
 back (suc n) [] h = refl
-back (suc n) (x ∷ s) h = back n s (and-r (within 48 57 x) (allDigits s) h)
+back (suc n) (x ∷ s) h = back n s (and-right (within 48 57 x) (allDigits s) h)
 
 module _ (s : List ℕ) (x : Bool) (all : x ≡ allDigits s) (yes : not x ≡ false) where
   digits : allDigits s ≡ true
@@ -79,11 +72,11 @@ module _ (s : List ℕ) (x : Bool) (all : x ≡ allDigits s) (yes : not x ≡ fa
   pub last-low : 15 ≤ length s → 48 ≤ getD s (length s - 1) 0
   last-low h = is-low s (length s - 1) (back (length s - 1) s digits) (omega arith)
 
-  pub front-digits : (t : List ℕ) → t ≡ partOf s 0 (length s - 1) → allDigits t ≡ true
-  front-digits t q = ap allDigits (q ∙ from-start s (length s - 1)) ∙ front (length s - 1) s digits
+  pub front-digits : (n : ℕ) (t : List ℕ) → t ≡ partOf s 0 n → allDigits t ≡ true
+  front-digits n t q = ap allDigits (q ∙ from-start s n) ∙ front n s digits
 
-pub front-few : (s t : List ℕ) → length s ≤ 16 → t ≡ partOf s 0 (length s - 1) → length t ≤ 16
-front-few s t h q = rw (q, from-start) (omega (arith, length-take (length s - 1) s))
+pub front-few : (s t : List ℕ) (n : ℕ) → length s ≤ 16 → t ≡ partOf s 0 n → length t ≤ 16
+front-few s t n h q = rw (q, from-start) (omega (arith, length-take n s))
 
 -- the check digit against the last
 module _ (s t : List ℕ) (k : ℕ) (is : k ≡ checkDigit t) (q : t ≡ partOf s 0 (length s - 1)) where

@@ -6,7 +6,7 @@ use Prim.Native.Nat.{ℕ}
 use Rattle.text.specs.Code.{codeIn}
 use Rattle.text.specs.Number.{unsigned}
 use Rattle.text.specs.Part.{before, after}
-use Rattle.text.specs.Reading.{Reading, read}
+use Rattle.text.specs.Reading.{read}
 use borrow.Author.Tests.{eq-eqb, ne-eqb}
 use Rattle.at_command.specs.says.Httptofs.{succeeded}
 use Rattle.at_command.specs.Httptofs.{httpCodes, orZero, Download, downloadOf}

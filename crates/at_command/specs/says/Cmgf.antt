@@ -1,7 +1,11 @@
 -- What the answers of cmgf say on paper.
+use mathlib.Core.Path.{_≡_}
+use mathlib.Core.List.{List}
 use Prim.Native.Nat.{ℕ}
 use mathlib.Core.Option.{Option, none, some}
+use Rattle.text.specs.Line.{checked}
 use Rattle.text.specs.Reading.{Reading, read, refused}
+use Rattle.at_command.specs.Cmgf.{cmgfText}
 use Rattle.at_command.specs.declared.cmgf.SmsMessageFormat.{SmsMessageFormat}
 use Rattle.at_command.specs.declared.cmgf.SmsMessageFormat.the-variants.{Pdu, Text}
 use Rattle.at_command.specs.declared.cmgf.FormatCode.{FormatCode}
@@ -20,3 +24,7 @@ codeSays Not = none
 abbrev pub says : SmsMessageFormatAnswer → Reading ℕ
 says (Value f) = read (formatNumber f)
 says (Refused k) = refused k
+
+-- the contract of its reader
+abbrev pub SmsMessageFormatKeeps : List ℕ → SmsMessageFormatAnswer → Type 0
+SmsMessageFormatKeeps line r = says r ≡ checked cmgfText line

@@ -1,10 +1,13 @@
 -- What the answers of cntp say on paper.
+use mathlib.Core.Path.{_≡_}
+use mathlib.Core.List.{List}
 use Prim.Native.Nat.{ℕ}
 use mathlib.Core.Option.{Option, none, some}
 use Rattle.text.specs.Part.{Span}
+use Rattle.text.specs.Line.{checked}
 use Rattle.text.specs.Reading.{Reading, read, refused}
 use Rattle.text.specs.says.Part.{placeSays}
-use Rattle.at_command.specs.Cntp.{NetTime}
+use Rattle.at_command.specs.Cntp.{NetTime, cntpText}
 use Rattle.at_command.specs.declared.cntp.SyncNtpStatusCode.{SyncNtpStatusCode}
 use Rattle.at_command.specs.declared.cntp.SyncNtpStatusCode.the-variants.{Success, NetworkError, DnsResolutionError, ConnectionError, ServiceResponseError, ServiceResponseTimeout}
 use Rattle.at_command.specs.declared.cntp.NtpCode.{NtpCode}
@@ -37,3 +40,7 @@ infoSays t = record { code = codeNumber (t .code); time = timeSays (t .time) }
 abbrev pub says : NetworkTimeAnswer → Reading NetTime
 says (Value t) = read (infoSays t)
 says (Refused k) = refused k
+
+-- the contract of its reader
+abbrev pub NetworkTimeKeeps : List ℕ → NetworkTimeAnswer → Type 0
+NetworkTimeKeeps line r = says r ≡ checked cntpText line

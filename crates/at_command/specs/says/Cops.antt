@@ -1,9 +1,12 @@
 -- What the answers of cops say on paper.
+use mathlib.Core.Path.{_≡_}
+use mathlib.Core.List.{List}
 use Prim.Native.Nat.{ℕ}
 use mathlib.Core.Option.{Option, none, some}
+use Rattle.text.specs.Line.{checked}
 use Rattle.text.specs.Reading.{Reading, read, refused}
 use Rattle.text.specs.says.Part.{placeSays}
-use Rattle.at_command.specs.Cops.{Name, inLine, inFallback, Operator}
+use Rattle.at_command.specs.Cops.{Name, inLine, inFallback, Operator, copsText}
 use Rattle.at_command.specs.declared.cops.OperatorMode.{OperatorMode}
 use Rattle.at_command.specs.declared.cops.OperatorMode.the-variants.{Automatic, Manual, ManualDeregister, ManualAutomatic}
 use Rattle.at_command.specs.declared.cops.OperatorFormat.{OperatorFormat}
@@ -47,3 +50,7 @@ infoSays i = record { mode = modeNumber (i .mode); format = formatNumber (i .for
 abbrev pub says : OperatorInfoAnswer → Reading Operator
 says (Value i) = read (infoSays i)
 says (Refused k) = refused k
+
+-- the contract of its reader
+abbrev pub OperatorInfoKeeps : List ℕ → List ℕ → List ℕ → OperatorInfoAnswer → Type 0
+OperatorInfoKeeps line formatFallback nameFallback r = says r ≡ checked (copsText formatFallback nameFallback) line

@@ -1,8 +1,11 @@
 -- What the answers of cpsi say on paper.
+use mathlib.Core.Path.{_≡_}
+use mathlib.Core.List.{List}
 use Prim.Native.Nat.{ℕ}
 use mathlib.Core.Option.{Option, none, some}
+use Rattle.text.specs.Line.{checked}
 use Rattle.text.specs.Reading.{Reading, read, refused}
-use Rattle.at_command.specs.Cpsi.{System}
+use Rattle.at_command.specs.Cpsi.{System, cpsiText}
 use Rattle.at_command.specs.declared.cpsi.SystemMode.{SystemMode}
 use Rattle.at_command.specs.declared.cpsi.SystemMode.the-variants.{NoService, Gsm, LteCatM1, LteNbIot}
 use Rattle.at_command.specs.declared.cpsi.OperationMode.{OperationMode}
@@ -42,3 +45,7 @@ infoSays i = record { systemMode = systemNumber (i .«system_mode»); operationM
 abbrev pub says : SystemInfoAnswer → Reading System
 says (Value i) = read (infoSays i)
 says (Refused k) = refused k
+
+-- the contract of its reader
+abbrev pub SystemInfoKeeps : List ℕ → SystemInfoAnswer → Type 0
+SystemInfoKeeps line r = says r ≡ checked cpsiText line

@@ -1,7 +1,10 @@
 -- What the answers of generic_response say on paper.
+use mathlib.Core.Path.{_≡_}
+use mathlib.Core.List.{List}
 use Prim.Native.Nat.{ℕ}
+use Rattle.text.specs.Line.{checked}
 use Rattle.text.specs.Reading.{Reading, read, refused, Mark, mark}
-use Rattle.at_command.specs.Generic.{Fault, generic, cme, cms}
+use Rattle.at_command.specs.Generic.{Fault, generic, cme, cms, okText, errorText, promptText, closeText}
 use Rattle.at_command.specs.declared.generic_response.GenericOk.{GenericOk}
 use Rattle.at_command.specs.declared.generic_response.GenericOkAnswer.{GenericOkAnswer}
 use Rattle.at_command.specs.declared.generic_response.GenericOkAnswer.the-variants as O
@@ -45,3 +48,16 @@ connectionSays c = c .connection
 abbrev pub closeSays : CloseOkAnswer → Reading ℕ
 closeSays (C.Value c) = read (connectionSays c)
 closeSays (C.Refused k) = refused k
+
+-- the contracts of the readers
+abbrev pub GenericOkKeeps : List ℕ → GenericOkAnswer → Type 0
+GenericOkKeeps line r = okSays r ≡ checked okText line
+
+abbrev pub SimErrorKeeps : List ℕ → SimErrorAnswer → Type 0
+SimErrorKeeps line r = errorSays r ≡ checked errorText line
+
+abbrev pub WritePromptKeeps : List ℕ → WritePromptAnswer → Type 0
+WritePromptKeeps line r = promptSays r ≡ checked promptText line
+
+abbrev pub CloseOkKeeps : List ℕ → CloseOkAnswer → Type 0
+CloseOkKeeps line r = closeSays r ≡ checked closeText line

@@ -1,7 +1,12 @@
 -- What the answers of gsn say on paper.
+use mathlib.Core.Path.{_≡_}
+use mathlib.Core.List.{List}
+use Prim.Native.Nat.{ℕ}
 use Rattle.text.specs.Part.{Span}
+use Rattle.text.specs.Line.{checked}
 use Rattle.text.specs.Reading.{Reading, read, refused}
 use Rattle.text.specs.says.Part.{placeSays}
+use Rattle.at_command.specs.Gsn.{imeiText}
 use Rattle.at_command.specs.declared.gsn.Imei.{Imei}
 use Rattle.at_command.specs.declared.gsn.ImeiAnswer.{ImeiAnswer}
 use Rattle.at_command.specs.declared.gsn.ImeiAnswer.the-variants.{Value, Refused}
@@ -12,3 +17,7 @@ imeiSays i = placeSays (i .imei)
 abbrev pub says : ImeiAnswer → Reading Span
 says (Value i) = read (imeiSays i)
 says (Refused k) = refused k
+
+-- the contract of its reader
+abbrev pub ImeiKeeps : List ℕ → ImeiAnswer → Type 0
+ImeiKeeps line r = says r ≡ checked imeiText line

@@ -1,10 +1,13 @@
 -- What the answers of httptofs say on paper.
+use mathlib.Core.Path.{_≡_}
+use mathlib.Core.List.{List}
 use Prim.Native.Nat.{ℕ}
 use mathlib.Core.Bool.{cond}
 use mathlib.Core.Option.{Option, none, some}
 use lib.Dec.{eqb}
+use Rattle.text.specs.Line.{checked}
 use Rattle.text.specs.Reading.{Reading, read, refused}
-use Rattle.at_command.specs.Httptofs.{Download}
+use Rattle.at_command.specs.Httptofs.{Download, httptofsText}
 use Rattle.at_command.specs.declared.httptofs.StatusCode.{StatusCode}
 use Rattle.at_command.specs.declared.httptofs.StatusCode.the-variants.{Continue, Ok, PartialContent, BadRequest, NotFound, RequestTimeout, InternalServerError, NotHttpPdu, NetworkError, NoMemory, DnsError, StackBusy, SslContinue, OtherErrors}
 use Rattle.at_command.specs.declared.httptofs.Success.{Success}
@@ -43,3 +46,11 @@ infoSays d = record { status = statusNumber (d .«status_code»); size = d .«da
 abbrev pub says : DownloadInfoAnswer → Reading Download
 says (Value d) = read (infoSays d)
 says (Refused k) = refused k
+
+-- the contract of its reader
+abbrev pub DownloadInfoKeeps : List ℕ → DownloadInfoAnswer → Type 0
+DownloadInfoKeeps line r = says r ≡ checked httptofsText line
+
+-- and of `success`
+abbrev pub SuccessKeeps : StatusCode → Success → Type 0
+SuccessKeeps code r = successSays r ≡ succeeded (statusNumber code)

@@ -1,9 +1,10 @@
 -- What the requests and the answers of their writers say on paper.
+use mathlib.Core.Path.{_≡_}
 use Prim.Native.Nat.{ℕ}
 use mathlib.Core.List.{List, [], _∷_}
 use Rattle.text.specs.Reading.{Reading, read, refused}
 use Rattle.at_command.specs.Kind.{Kind, genericOk, simError, writePrompt, closeOk, iccid, signalQuality, systemInfo, operatorInfo, networkTime, downloadInfo, imei, smsMessageFormat, smsMessage}
-use Rattle.at_command.specs.Request.{Asked, getSignalQuality, showIccid, getImei, getOperatorInfo, setManualOperator, setAutomaticOperator, getSystemInfo, synchronizeNetworkTime, execute, downloadToFileSystem, getSmsMessageFormat, setSmsMessageFormat, readSms, answersTo}
+use Rattle.at_command.specs.Request.{Asked, getSignalQuality, showIccid, getImei, getOperatorInfo, setManualOperator, setAutomaticOperator, getSystemInfo, synchronizeNetworkTime, execute, downloadToFileSystem, getSmsMessageFormat, setSmsMessageFormat, readSms, Writes, answersTo}
 use Rattle.at_command.specs.says.Cmgf.{formatNumber}
 use Rattle.at_command.specs.declared.request.Encoded.{Encoded}
 use Rattle.at_command.specs.declared.request.Encoded.the-variants as E
@@ -56,3 +57,11 @@ awaitsSays (Two a b) = kindSays a ∷ kindSays b ∷ []
 -- the answers that the request awaits, whatever its texts
 abbrev pub awaitedBy : Request → List Kind
 awaitedBy q = answersTo (asked q [] [])
+
+-- the contract of every writer: the size or the refusal, and the output buffer
+abbrev pub EncodeKeeps : Asked → List ℕ → Encoded → List ℕ → Type 0
+EncodeKeeps request before r after = Writes request before (encodedSays r) after
+
+-- and of `awaits`
+abbrev pub AwaitsKeeps : Request → Awaits → Type 0
+AwaitsKeeps request r = awaitsSays r ≡ awaitedBy request

@@ -1,7 +1,10 @@
 -- What the answers of the trial say on paper.
+use mathlib.Core.Path.{_≡_}
+use mathlib.Core.List.{List}
 use Prim.Native.Nat.{ℕ}
+use Rattle.text.specs.Line.{checked}
 use Rattle.text.specs.Reading.{Reading, read, refused}
-use Rattle.at_command.specs.Response.{Response, ok, error, prompt, closeOk, iccid, signal, system, operator, time, download, imei, format, message}
+use Rattle.at_command.specs.Response.{Response, kindOf, ok, error, prompt, closeOk, iccid, signal, system, operator, time, download, imei, format, message, responseText}
 use Rattle.at_command.specs.says.Ccid.{cardSays}
 use Rattle.at_command.specs.says.Cmgf.{formatNumber}
 use Rattle.at_command.specs.says.Cmgr.{messageSays}
@@ -12,6 +15,8 @@ use Rattle.at_command.specs.says.Csq.{signalSays}
 use Rattle.at_command.specs.says.Generic.{okMark, faultSays, promptMark, connectionSays}
 use Rattle.at_command.specs.says.Gsn.{imeiSays}
 use Rattle.at_command.specs.says.Httptofs.{infoSays as downloadSays}
+use Rattle.at_command.specs.says.Request.{kindSays}
+use Rattle.at_command.specs.declared.request.ResponseKind.{ResponseKind}
 use Rattle.at_command.specs.declared.ResponseCode.{ResponseCode}
 use Rattle.at_command.specs.declared.ResponseCode.the-variants as R
 use Rattle.at_command.specs.declared.ResponseCodeAnswer.{ResponseCodeAnswer}
@@ -35,3 +40,11 @@ codeSays (R.SmsMessage v) = message (messageSays v)
 abbrev pub says : ResponseCodeAnswer → Reading Response
 says (Value c) = read (codeSays c)
 says (Refused k) = refused k
+
+-- the contract of the trial
+abbrev pub ResponseCodeKeeps : List ℕ → ResponseCodeAnswer → Type 0
+ResponseCodeKeeps line r = says r ≡ checked responseText line
+
+-- and of `kind`
+abbrev pub KindKeeps : ResponseCode → ResponseKind → Type 0
+KindKeeps code r = kindSays r ≡ kindOf (codeSays code)

@@ -28,82 +28,14 @@ module _ (m k d a b n e q : ℕ) (is-d : d ≡ 10 ^ k) (A : Placed m a) (B : Pla
 returns : tie.Need-returns
 returns c = λ s. rw (c .if1 .taken) (pattern-zero (10 ^ c .before .args .k) (ten-pos (c .before .args .k)) s)
 
-ten-to-requires : tie.Need-ten-to-requires
-ten-to-requires c κs = search needs
-
-shift-of-requires : tie.Need-shift-of-requires
-shift-of-requires c κs = search needs
-
 shift-of-requires-2 : tie.Need-shift-of-requires-2
 shift-of-requires-2 c κs =
     let k = c .before .before .before .args .k in
     omega (arith, ten-pos k, ten-lt k (search needs))
 
-raised-requires : tie.Need-raised-requires
-raised-requires c κs = search needs
-
-raised-requires-2 : tie.Need-raised-requires-2
-raised-requires-2 c κs = search needs
-
-add-result : tie.Need-add-result
-add-result c = search needs
-
-sub-result : tie.Need-sub-result
-sub-result c = search needs
-
-mul-result : tie.Need-mul-result
-mul-result c = search needs
-
-mul-significand : tie.Need-mul-significand
-mul-significand c = search needs
-
-significand-requires : tie.Need-significand-requires
-significand-requires c κs = search needs
-
-add-result-2 : tie.Need-add-result-2
-add-result-2 c = search needs
-
-returns-2 : tie.Need-returns-2
-returns-2 c = search under
-
-add-result-3 : tie.Need-add-result-3
-add-result-3 c = search needs
-
-sub-result-2 : tie.Need-sub-result-2
-sub-result-2 c = search needs
-
-mul-result-2 : tie.Need-mul-result-2
-mul-result-2 c = search needs
-
-significand-requires-2 : tie.Need-significand-requires-2
-significand-requires-2 c κs = search needs
-
-add-result-4 : tie.Need-add-result-4
-add-result-4 c = search needs
-
-returns-3 : tie.Need-returns-3
-returns-3 c = search over
-
 pub magnitude-spec : {M : Type 1} → statement M
 magnitude-spec =
     tie.close
-    (tie.spec
-    returns
-    ten-to-requires
-    shift-of-requires
-    shift-of-requires-2
-    raised-requires
-    raised-requires-2
-    add-result
-    sub-result
-    mul-result
-    mul-significand
-    significand-requires
-    add-result-2
-    returns-2
-    add-result-3
-    sub-result-2
-    mul-result-2
-    significand-requires-2
-    add-result-4
-    returns-3)
+    (tie.spec returns (λ c κs. search needs) (λ c κs. search needs) shift-of-requires-2 (λ c κs. search needs) (λ c κs. search needs) (λ c. search needs) (λ c. search needs)
+    (λ c. search needs) (λ c. search needs) (λ c κs. search needs) (λ c. search needs) (λ c. search under) (λ c. search needs) (λ c. search needs) (λ c. search needs)
+    (λ c κs. search needs) (λ c. search needs) (λ c. search over))

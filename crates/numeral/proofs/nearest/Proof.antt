@@ -9,9 +9,6 @@ use Rattle.numeral.proofs.Pattern.{read-back, no-nan, under-all}
 use Rattle.numeral.proofs.nearest.Statement.{statement}
 use Rattle.numeral.proofs.nearest.Tie as tie
 
-magnitude-requires : tie.Need-magnitude-requires
-magnitude-requires c κs = search needs
-
 add-result : tie.Need-add-result
 add-result c = omega (arith, under-all true (c .before .before .args .m) (10 ^ c .before .before .args .k) _ (c .before .magnitude .ensures true))
 
@@ -28,12 +25,4 @@ returns-2 : tie.Need-returns-2
 returns-2 c = rw (c .if1 .left) (read-back false (c .before .before .args .m) (10 ^ c .before .before .args .k) _ (c .before .magnitude .ensures false ∙ zero-add (c .before .magnitude .result)))
 
 pub nearest-spec : {M : Type 1} → statement M
-nearest-spec =
-    tie.close
-    (tie.spec
-    magnitude-requires
-    add-result
-    float-from-bits-result
-    returns
-    float-from-bits-result-2
-    returns-2)
+nearest-spec = tie.close (tie.spec (λ c κs. search needs) add-result float-from-bits-result returns float-from-bits-result-2 returns-2)

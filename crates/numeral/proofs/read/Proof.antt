@@ -2,49 +2,43 @@
 use mathlib.Core.Path.{_≡_, sym, ap, _∙_}
 use mathlib.Core.Bool.{Bool}
 use mathlib.Core.List.{List}
-use mathlib.Core.Option.{none, some}
+use mathlib.Core.Option.{Option, none, some}
 use Prim.Native.Nat.{ℕ, _^_, _≤_, _<_}
 use native.Mathlib.Omega.{arith}
 use lib.Ieee.{Float, binary32, round}
 use borrow.Author.Needs.{needs}
 use Rattle.numeral.specs.declared.Scanned.{Scanned}
 use Rattle.numeral.specs.declared.Scanned.the-variants.{Exact, Not}
-use Rattle.numeral.specs.Numeral.{decimalOf, floatOf}
+use Rattle.text.specs.Reading as R
+use Rattle.text.specs.Reading.{read, need}
+use Rattle.numeral.specs.Numeral.{decimalOf, floatOf, numeralText}
 use Rattle.numeral.specs.Nearest.{Answers, value, refused}
-use Rattle.numeral.specs.Told.{toldDecimal}
+use Rattle.numeral.specs.declared.Numeral.the-variants.{Value, Refused}
+use Rattle.numeral.specs.says.Numeral.{scannedSays, NumeralKeeps}
 use Rattle.numeral.proofs.Pattern.{ten-pos}
 use Rattle.numeral.proofs.Rounding.{round-nearest}
-use Rattle.numeral.proofs.Said.{sound, unsaid, small}
+use Rattle.numeral.proofs.NumeralGrammar.{sound, unsaid, small}
 use Rattle.numeral.proofs.read.Statement.{statement}
 use Rattle.numeral.proofs.read.Tie as tie
 
-module _ (s : List ℕ) (r : Scanned) (told : toldDecimal r ≡ decimalOf s) where
+module _ (s : List ℕ) (r : Scanned) (told : scannedSays r ≡ decimalOf s) where
   narrow : (n : Bool) (m k : ℕ) → r ≡ Exact n m k → (m < 10 ^ 15) × (k ≤ 15)
-  narrow n m k e = small s (record { negative = n; number = m; places = k }) (sym told ∙ ap toldDecimal e)
+  narrow n m k e = small s (record { negative = n; number = m; places = k }) (sym told ∙ ap scannedSays e)
 
-  answered : (n : Bool) (m k : ℕ) (x : Float) → r ≡ Exact n m k → x ≡ round binary32 n m (10 ^ k) → (some x ≡ floatOf s) × Answers s (some x)
-  unfolding floatOf
+  answered : (n : Bool) (m k : ℕ) (x : Float) → r ≡ Exact n m k → x ≡ round binary32 n m (10 ^ k) → NumeralKeeps s (Value x)
+  unfolding numeralText floatOf need
   answered n m k x e f =
-      let d : decimalOf s ≡ some (record { negative = n; number = m; places = k }) = sym told ∙ ap toldDecimal e in
-      (rw (d, f), rw f (value (sound s _ d) (round-nearest n m (10 ^ k) (ten-pos k) (omega (arith, narrow n m k e)))))
+      let d : decimalOf s ≡ some (record { negative = n; number = m; places = k }) = sym told ∙ ap scannedSays e in
+      record { exact = rw (d, f); nearest = rw f (value (sound s _ d) (round-nearest n m (10 ^ k) (ten-pos k) (omega (arith, narrow n m k e)))) }
 
-  unanswered : r ≡ Not → (none ≡ floatOf s) × Answers s none
-  unfolding floatOf
+  unanswered : r ≡ Not → NumeralKeeps s Refused
+  unfolding numeralText floatOf need
   unanswered e =
-      let d : decimalOf s ≡ none = sym told ∙ ap toldDecimal e in
-      (rw d, refused (unsaid s d))
-
-scan-requires : tie.Need-scan-requires
-scan-requires c κs = search needs
-
-enum-known-negative : tie.Need-enum-known-negative
-enum-known-negative c = search needs
+      let d : decimalOf s ≡ none = sym told ∙ ap scannedSays e in
+      record { exact = rw d; nearest = refused (unsaid s d) }
 
 nearest-requires : tie.Need-nearest-requires
 nearest-requires c κs = narrow _ _ (c .before .before .before .scan .ensures) _ _ _ (c .before .negative .given .1)
-
-enum-told : tie.Need-enum-told
-enum-told c = search needs
 
 returns : tie.Need-returns
 returns c = answered _ _ (c .before .before .before .before .scan .ensures) _ _ _ _ (c .before .before .negative .given .1) (c .nearest .ensures)
@@ -53,6 +47,4 @@ returns-2 : tie.Need-returns-2
 returns-2 c = unanswered _ _ (c .before .before .scan .ensures) (c .enum-told .given .1)
 
 pub read-spec : {M : Type 1} → statement M
-read-spec =
-    tie.close
-    (tie.spec scan-requires enum-known-negative nearest-requires enum-told returns returns-2)
+read-spec = tie.close (tie.spec (λ c κs. search needs) (λ c. search needs) nearest-requires (λ c. search needs) returns returns-2)

@@ -34,43 +34,8 @@ unfolding decimalOf unsigned startsWith
 bare [] o h n p r = absurd (h refl)
 bare (x ∷ s) o h n p r = rw (ne-eqb x 45 n, ne-eqb x 43 p) r
 
-returns : tie.Need-returns
-returns c = search empty
-
-shared-slice-read-if2 : tie.Need-shared-slice-read-if2
-shared-slice-read-if2 c = search needs
-
-digits-from-requires : tie.Need-digits-from-requires
-digits-from-requires c κs = search needs
-
-returns-2 : tie.Need-returns-2
-returns-2 c = search minus
-
-shared-slice-read-if3 : tie.Need-shared-slice-read-if3
-shared-slice-read-if3 c = search needs
-
-digits-from-requires-2 : tie.Need-digits-from-requires-2
-digits-from-requires-2 c κs = search needs
-
-returns-3 : tie.Need-returns-3
-returns-3 c = search plus
-
-digits-from-requires-3 : tie.Need-digits-from-requires-3
-digits-from-requires-3 c κs = search needs
-
-returns-4 : tie.Need-returns-4
-returns-4 c = search bare
-
 pub scan-spec : {M : Type 1} → statement M
 scan-spec =
     tie.close
-    (tie.spec
-    returns
-    shared-slice-read-if2
-    digits-from-requires
-    returns-2
-    shared-slice-read-if3
-    digits-from-requires-2
-    returns-3
-    digits-from-requires-3
-    returns-4)
+    (tie.spec (λ c. search empty) (λ c. search needs) (λ c κs. search needs) (λ c. search minus) (λ c. search needs) (λ c κs. search needs) (λ c. search plus)
+    (λ c κs. search needs) (λ c. search bare))

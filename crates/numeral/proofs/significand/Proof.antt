@@ -42,32 +42,17 @@ module _ (n d : ℕ) (h : (d ≤ n) × (n < 2 * d) × (d < 2 ^ 50)) where
   under : quotient n d < 2 ^ 24
   under = omega (arith, first-lt, second-lt)
 
-mul-a : tie.Need-mul-a
-mul-a c = search needs
-
-rem-b : tie.Need-rem-b
-rem-b c = search needs
-
 mul-b : tie.Need-mul-b
 mul-b c = omega (arith, left-lt (c .args .n) (c .args .d) (c .pre))
 
-div-q : tie.Need-div-q
-div-q c = search needs
-
 mul-q : tie.Need-mul-q
 mul-q c = omega (arith, first-lt (c .args .n) (c .args .d) (c .pre))
-
-div-q-2 : tie.Need-div-q-2
-div-q-2 c = search needs
 
 add-q : tie.Need-add-q
 add-q c = omega (arith, under (c .args .n) (c .args .d) (c .pre))
 
 cast-q : tie.Need-cast-q
 cast-q c = omega (arith, under (c .args .n) (c .args .d) (c .pre))
-
-rem-t : tie.Need-rem-t
-rem-t c = search needs
 
 mul-t : tie.Need-mul-t
 mul-t c = omega (arith, rest-lt (c .args .n) (c .args .d) (c .pre))
@@ -103,19 +88,5 @@ returns-3 c =
 pub significand-spec : {M : Type 1} → statement M
 significand-spec =
     tie.close
-    (tie.spec
-    mul-a
-    rem-b
-    mul-b
-    div-q
-    mul-q
-    div-q-2
-    add-q
-    cast-q
-    rem-t
-    mul-t
-    returns
-    add-result
-    returns-2
-    add-result-2
-    returns-3)
+    (tie.spec (λ c. search needs) (λ c. search needs) mul-b (λ c. search needs) mul-q (λ c. search needs) add-q cast-q (λ c. search needs) mul-t returns add-result returns-2
+    add-result-2 returns-3)

@@ -1,5 +1,5 @@
 -- A walk by hand, by the steps of `Lending`: the desk is stored in a local and lent for a lifetime that is made for the call, and it is back, at its last value, once that is over.
-use mathlib.Core.Path.{_≡_, refl, ap}
+use mathlib.Core.Path.{refl, ap}
 use Prim.Native.Nat.{ℕ}
 use mathlib.Core.List.{List, [], _∷_}
 use lib.ListN.{length}
@@ -37,8 +37,7 @@ use denote.Triple.Spec.{tripleOf}
 use denote.Triple.Statement.{Triple}
 use denote.Triple.Table.{entered, cited}
 use denote.Triple.Walked.{Stays, stay-dropped, gave-slice, goes-dropped, goes-gave-slice}
-use Rattle.desk.specs.Desk.{fed}
-use Rattle.desk.specs.Says.{stateOf, fedLentSays}
+use Rattle.desk.specs.Keeps.{FeedLentKeeps}
 use Rattle.desk.specs.declared.Desk.{Desk}
 use Rattle.desk.specs.declared.feed.Fed.{Fed}
 use Rattle.desk.specs.declared.feed.FedAnswer.{FedAnswer}
@@ -59,7 +58,7 @@ use Rattle.showing.proofs.lend.Code as code
 
 -- what `feed_lent` ensures
 abbrev Lent-says : (κs : Lfts 3) → Args (work.ended .signature) κs → FedAnswer → AtExit work.ended κs → Type 0
-Lent-says κs a r e = fedLentSays (now (e .0)) r (now (e .1 .1 .0)) ≡ fed (stateOf (now (a .0))) (now (a .1 .0)) (now (a .1 .1 .0))
+Lent-says κs a r e = FeedLentKeeps (now (a .0)) (now (a .1 .0)) (now (a .1 .1 .0)) (now (e .0)) r (now (e .1 .1 .0))
 
 abbrev stayed : Stays (f.ended .signature .params) (f.ended .kept)
 stayed = (stay-dropped (plain (λ _. T.the-row)) yes, (stay-dropped (shrSliceOf (0 ∷ []) tt (plain (λ _. u8))) yes, (gave-slice (1 ∷ []) tt (plain (λ _. u8)), tt)))

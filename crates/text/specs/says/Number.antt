@@ -1,5 +1,6 @@
--- What the answers of the integer readers say on paper.
+-- What the answers of the integer readers say on paper, and what a call says that answers one.
 use Prim.Native.Nat.{ℕ}
+use mathlib.Core.Path.{_≡_}
 use mathlib.Core.Option.{Option, none, some}
 use lib.IntN.{ℤ}
 use Rattle.text.specs.declared.number.ParsedU8.{ParsedU8}
@@ -32,3 +33,18 @@ saysU64 NotU64 = none
 abbrev pub saysI32 : ParsedI32 → Option ℤ
 saysI32 (IsI32 z) = some z
 saysI32 NotI32 = none
+
+abbrev pub U8Keeps : Option ℕ → ParsedU8 → Type 0
+U8Keeps o r = saysU8 r ≡ o
+
+abbrev pub U16Keeps : Option ℕ → ParsedU16 → Type 0
+U16Keeps o r = saysU16 r ≡ o
+
+abbrev pub U32Keeps : Option ℕ → ParsedU32 → Type 0
+U32Keeps o r = saysU32 r ≡ o
+
+abbrev pub U64Keeps : Option ℕ → ParsedU64 → Type 0
+U64Keeps o r = saysU64 r ≡ o
+
+abbrev pub I32Keeps : Option ℤ → ParsedI32 → Type 0
+I32Keeps o r = saysI32 r ≡ o

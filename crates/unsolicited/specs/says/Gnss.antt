@@ -1,73 +1,56 @@
--- What the answers of ugnsinf say on paper.
+-- What the answers of ugnsinf say on paper, and its contracts.
+use mathlib.Core.Path.{_≡_}
+use mathlib.Core.List.{List}
+use Prim.Native.Nat.{ℕ}
+use Rattle.text.specs.Line.{checked}
+use mathlib.Core.Bool.{cond}
 use mathlib.Core.Option.{Option, none, some}
 use Rattle.text.specs.Reading.{Reading, read, refused}
 use Rattle.text.specs.says.Number.{saysU32}
-use Rattle.unsolicited.specs.Date.{Date}
+use lib.Ieee as Ieee
+use Rattle.unsolicited.specs.Date.{Date, dateOf}
 use Rattle.unsolicited.specs.Gnss as paper
 use Rattle.unsolicited.specs.declared.ugnsinf.DateTime.{DateTime}
-use Rattle.unsolicited.specs.declared.ugnsinf.OptionDateTime.{OptionDateTime}
-use Rattle.unsolicited.specs.declared.ugnsinf.OptionDateTime.the-variants.{None, Some}
-use Rattle.unsolicited.specs.declared.ugnsinf.Position.{Position}
-use Rattle.unsolicited.specs.declared.ugnsinf.OptionPosition.{OptionPosition}
-use Rattle.unsolicited.specs.declared.ugnsinf.OptionPosition.the-variants as P
-use Rattle.unsolicited.specs.declared.ugnsinf.Motion.{Motion}
-use Rattle.unsolicited.specs.declared.ugnsinf.OptionMotion.{OptionMotion}
-use Rattle.unsolicited.specs.declared.ugnsinf.OptionMotion.the-variants as M
-use Rattle.unsolicited.specs.declared.ugnsinf.Dilution.{Dilution}
-use Rattle.unsolicited.specs.declared.ugnsinf.OptionDilution.{OptionDilution}
-use Rattle.unsolicited.specs.declared.ugnsinf.OptionDilution.the-variants as D
-use Rattle.unsolicited.specs.declared.ugnsinf.Satellites.{Satellites}
-use Rattle.unsolicited.specs.declared.ugnsinf.OptionSatellites.{OptionSatellites}
-use Rattle.unsolicited.specs.declared.ugnsinf.OptionSatellites.the-variants as S
+use Rattle.unsolicited.specs.declared.ugnsinf.ParsedDateTime.{ParsedDateTime}
+use Rattle.unsolicited.specs.declared.ugnsinf.ParsedDateTime.the-variants.{Is, Not}
+use Rattle.unsolicited.specs.declared.ugnsinf.Float.{Float}
+use Rattle.unsolicited.specs.declared.ugnsinf.Count.{Count}
 use Rattle.unsolicited.specs.declared.ugnsinf.GnssFix.{GnssFix}
 use Rattle.unsolicited.specs.declared.ugnsinf.GnssReport.{GnssReport}
 use Rattle.unsolicited.specs.declared.ugnsinf.GnssReport.the-variants.{NotEnabled, NoFix, Fix}
 use Rattle.unsolicited.specs.declared.ugnsinf.GnssReportAnswer.{GnssReportAnswer}
 use Rattle.unsolicited.specs.declared.ugnsinf.GnssReportAnswer.the-variants.{Value, Refused}
 
+-- what a field says, none where it is unreadable
+abbrev pub floatSays : Float → Option Ieee.Float
+floatSays r = cond (r .good) (some (r .value)) none
+
+abbrev pub countSays : Count → Option ℕ
+countSays r = cond (r .good) (some (r .value)) none
+
 abbrev pub dateSays : DateTime → Date
 dateSays d = record { year = d .year; month = d .month; day = d .day; hour = d .hour; minute = d .minute; second = d .second }
 
-abbrev pub dateOptionSays : OptionDateTime → Option Date
-dateOptionSays None = none
-dateOptionSays (Some d) = some (dateSays d)
-
-abbrev pub positionSays : Position → paper.Position
-positionSays p = record { latitude = p .latitude; longitude = p .longitude; altitude = p .altitude }
-
-abbrev pub positionOptionSays : OptionPosition → Option paper.Position
-positionOptionSays P.None = none
-positionOptionSays (P.Some p) = some (positionSays p)
-
-abbrev pub motionSays : Motion → paper.Motion
-motionSays m = record { speed = m .speed; course = m .course }
-
-abbrev pub motionOptionSays : OptionMotion → Option paper.Motion
-motionOptionSays M.None = none
-motionOptionSays (M.Some m) = some (motionSays m)
-
-abbrev pub dilutionSays : Dilution → paper.Dilution
-dilutionSays d = record { hdop = d .hdop; pdop = d .pdop; vdop = d .vdop }
-
-abbrev pub dilutionOptionSays : OptionDilution → Option paper.Dilution
-dilutionOptionSays D.None = none
-dilutionOptionSays (D.Some d) = some (dilutionSays d)
-
-abbrev pub satellitesSay : Satellites → paper.Satellites
-satellitesSay s = record { gpsInView = s .«in_view»; gnssUsed = s .«gnss_used»; glonassUsed = s .«glonass_used»; signalNoiseRatio = s .noise }
-
-abbrev pub satellitesOptionSays : OptionSatellites → Option paper.Satellites
-satellitesOptionSays S.None = none
-satellitesOptionSays (S.Some s) = some (satellitesSay s)
+abbrev pub dateOptionSays : ParsedDateTime → Option Date
+dateOptionSays (Is d) = some (dateSays d)
+dateOptionSays Not = none
 
 abbrev pub fixSays : GnssFix → paper.Fix
 fixSays f =
     record {
-      date = dateSays (f .«date_time»);
-      position = record { latitude = f .latitude; longitude = f .longitude; altitude = f .altitude };
-      motion = record { speed = f .«speed_over_ground»; course = f .«course_over_ground» };
-      dilution = record { hdop = f .hdop; pdop = f .pdop; vdop = f .vdop };
-      satellites = record { gpsInView = f .«sat_gps_in_view»; gnssUsed = f .«sat_gnss_used»; glonassUsed = f .«sat_glonass_used»; signalNoiseRatio = f .«signal_noise_ratio» };
+      dateTime = dateSays (f .«date_time»);
+      latitude = f .latitude;
+      longitude = f .longitude;
+      altitude = f .altitude;
+      hdop = f .hdop;
+      pdop = f .pdop;
+      vdop = f .vdop;
+      speedOverGround = f .«speed_over_ground»;
+      courseOverGround = f .«course_over_ground»;
+      satGpsInView = f .«sat_gps_in_view»;
+      satGnssUsed = f .«sat_gnss_used»;
+      satGlonassUsed = f .«sat_glonass_used»;
+      signalNoiseRatio = f .«signal_noise_ratio»;
     }
 
 abbrev pub reportSays : GnssReport → paper.Report
@@ -78,3 +61,9 @@ reportSays (Fix f) = paper.fix (fixSays f)
 abbrev pub says : GnssReportAnswer → Reading paper.Report
 says (Value r) = read (reportSays r)
 says (Refused k) = refused k
+
+abbrev pub DateKeeps : List ℕ → ParsedDateTime → Type 0
+DateKeeps text r = dateOptionSays r ≡ dateOf text
+
+abbrev pub GnssReportKeeps : List ℕ → GnssReportAnswer → Type 0
+GnssReportKeeps line r = says r ≡ checked paper.ugnsinfText line

@@ -1,5 +1,8 @@
--- What the answers on the registration in the network say on paper.
+-- What the answers on the registration in the network say on paper, and the contract of their four readers.
+use mathlib.Core.Path.{_≡_}
+use mathlib.Core.List.{List}
 use Prim.Native.Nat.{ℕ}
+use Rattle.text.specs.Line.{checked}
 use Rattle.text.specs.Reading.{Reading, read, refused}
 use Rattle.text.specs.says.Number.{saysU16, saysU32}
 use Rattle.unsolicited.specs.Registration.{Registration}
@@ -23,3 +26,7 @@ registrationSays r = record { status = statusNumber (r .status); lac = saysU16 (
 abbrev pub says : NetworkRegistrationAnswer → Reading Registration
 says (Value r) = read (registrationSays r)
 says (Refused k) = refused k
+
+-- text is the reader's: `cregText`, `cgregText`, `ceregText` or `registrationText`
+abbrev pub RegistrationKeeps : (List ℕ → Reading Registration) → List ℕ → NetworkRegistrationAnswer → Type 0
+RegistrationKeeps text line r = says r ≡ checked text line

@@ -50,23 +50,13 @@ module _ (z : ℤ) (f : SFits w32 z) where
 fits-back : (z : ℤ) → Plain z → SFits w32 z
 fits-back z p = rw (p .same) (p .fits)
 
-sub-result : tie.Need-sub-result
-sub-result c = fits-back _ (below _ (c .before .fits .n) (c .if1 .taken))
-
-cast-result : tie.Need-cast-result
-cast-result c = casts _ (below _ (c .before .fits .n) (c .if1 .taken))
-
-add-result : tie.Need-add-result
-add-result c = one-more _ (below _ (c .before .fits .n) (c .if1 .taken))
-
-returns : tie.Need-returns
-returns c = search needs
-
-cast-result-2 : tie.Need-cast-result-2
-cast-result-2 c = casts _ (above _ (c .before .fits .n) (c .if1 .left))
-
-returns-2 : tie.Need-returns-2
-returns-2 c = search needs
-
 pub magnitude-spec : {M : Type 1} → statement M
-magnitude-spec = tie.close (tie.spec sub-result cast-result add-result returns cast-result-2 returns-2)
+magnitude-spec =
+    tie.close
+    (tie.spec
+    (λ c. fits-back _ (below _ (c .before .fits .n) (c .if1 .taken)))
+    (λ c. casts _ (below _ (c .before .fits .n) (c .if1 .taken)))
+    (λ c. one-more _ (below _ (c .before .fits .n) (c .if1 .taken)))
+    (λ c. search needs)
+    (λ c. casts _ (above _ (c .before .fits .n) (c .if1 .left)))
+    (λ c. search needs))

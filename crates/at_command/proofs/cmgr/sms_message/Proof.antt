@@ -5,21 +5,9 @@ use native.Mathlib.Omega.{arith}
 use Rattle.text.proofs.Readings.{reader, count-via}
 use Rattle.at_command.specs.Cmgr.{cmgrFields}
 
-skip-requires : tie.Need-skip-requires
-skip-requires c κs = search needs
-
-field-count-requires : tie.Need-field-count-requires
-field-count-requires c κs = search needs
-
 returns : tie.Need-returns
 unfolding cmgrFields
 returns c = search (reader)
-
-nth-field-requires : tie.Need-nth-field-requires
-nth-field-requires c κs = search needs
-
-trim-requires : tie.Need-trim-requires
-trim-requires c κs = search needs
 
 returns-2 : tie.Need-returns-2
 unfolding cmgrFields
@@ -33,14 +21,4 @@ unfolding cmgrFields
 returns-3 c = search (reader)
 
 pub sms-message-spec : {M : Type 1} → statement M
-sms-message-spec =
-    tie.close
-    (tie.spec
-    skip-requires
-    field-count-requires
-    returns
-    nth-field-requires
-    trim-requires
-    returns-2
-    unquoted-field-requires
-    returns-3)
+sms-message-spec = tie.close (tie.spec (λ c κs. search needs) (λ c κs. search needs) returns (λ c κs. search needs) (λ c κs. search needs) returns-2 unquoted-field-requires returns-3)

@@ -10,41 +10,17 @@ use Rattle.at_command.specs.says.Cntp.{codeSays, codeNumber}
 use Rattle.at_command.specs.declared.cntp.NtpCode.the-variants.{Is, Not}
 use Rattle.at_command.proofs.cntp.Laws.{start-fits, time-at}
 
-skip-requires : tie.Need-skip-requires
-skip-requires c κs = search needs
-
-before-byte-requires : tie.Need-before-byte-requires
-before-byte-requires c κs = search needs
-
-code-of-requires : tie.Need-code-of-requires
-code-of-requires c κs = search needs
-
-enum-known-code : tie.Need-enum-known-code
-enum-known-code c = search needs
-
-enum-told : tie.Need-enum-told
-enum-told c = search needs
-
 returns : tie.Need-returns
 unfolding cntpRest
 returns c = search (reader, lacked {B = NetTime} codeSays (codeIn ntpCodes) Not refl)
-
-has-byte-requires : tie.Need-has-byte-requires
-has-byte-requires c κs = search needs
 
 returns-2 : tie.Need-returns-2
 unfolding cntpRest
 returns-2 c = search (reader, got {B = NetTime} codeSays (codeIn ntpCodes) Is codeNumber (λ m. refl))
 
-after-byte-requires : tie.Need-after-byte-requires
-after-byte-requires c κs = search needs
-
 returns-3 : tie.Need-returns-3
 unfolding cntpRest
 returns-3 c = search (reader, got {B = NetTime} codeSays (codeIn ntpCodes) Is codeNumber (λ m. refl))
-
-find-requires : tie.Need-find-requires
-find-requires c κs = search needs
 
 add-start : tie.Need-add-start
 add-start c = omega (arith, start-fits (c .before .before .before .before .before .before .before .before .before .before .before .before .args .line .now) _ _ (c .before .before .before .before .before .before .before .before .before .before .skip .ensures .bytes) (c .before .before .before .before .has-byte .ensures) (c .before .before .before .if1 .left) _ (c .find .ensures))
@@ -54,19 +30,4 @@ unfolding cntpRest
 returns-4 c = search (reader, got {B = NetTime} codeSays (codeIn ntpCodes) Is codeNumber (λ m. refl), time-at)
 
 pub network-time-spec : {M : Type 1} → statement M
-network-time-spec =
-    tie.close
-    (tie.spec
-    skip-requires
-    before-byte-requires
-    code-of-requires
-    enum-known-code
-    enum-told
-    returns
-    has-byte-requires
-    returns-2
-    after-byte-requires
-    returns-3
-    find-requires
-    add-start
-    returns-4)
+network-time-spec = tie.close (tie.spec (λ c κs. search needs) (λ c κs. search needs) (λ c κs. search needs) (λ c. search needs) (λ c. search needs) returns (λ c κs. search needs) returns-2 (λ c κs. search needs) returns-3 (λ c κs. search needs) add-start returns-4)

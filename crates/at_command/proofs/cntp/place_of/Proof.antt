@@ -18,25 +18,5 @@ there : (t : TimePlace) (p : Place) (h : Handed) → t ≡ Some p → h ≡ inLi
 unfolding timeIn
 there t p h e z = z ∙ ap (λ (m : TimePlace). timeIn (timeSays m)) (sym e)
 
-enum-told : tie.Need-enum-told
-enum-told c = search needs
-
-nowhere-requires : tie.Need-nowhere-requires
-nowhere-requires c κs = search needs
-
-enum-known-time : tie.Need-enum-known-time
-enum-known-time c = search needs
-
-in-line-requires : tie.Need-in-line-requires
-in-line-requires c κs = search needs
-
-returns : tie.Need-returns
-returns c = search (needs, absent)
-
-returns-2 : tie.Need-returns-2
-returns-2 c = search (needs, there)
-
 pub place-of-spec : {M : Type 1} → statement M
-place-of-spec =
-    tie.close
-    (tie.spec enum-told nowhere-requires enum-known-time in-line-requires returns returns-2)
+place-of-spec = tie.close (tie.spec (λ c. search needs) (λ c κs. search needs) (λ c. search needs) (λ c κs. search needs) (λ c. search (needs, absent)) (λ c. search (needs, there)))

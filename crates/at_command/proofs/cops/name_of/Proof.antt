@@ -4,23 +4,11 @@ use Rattle.at_command.proofs.cops.name_of.Statement.{statement}
 use Rattle.at_command.proofs.cops.name_of.Tie as tie
 use Rattle.at_command.proofs.cops.Laws.{left-fits, third, name-in-line, name-in-fallback}
 
-skip-requires : tie.Need-skip-requires
-skip-requires c κs = search needs
-
-field-count-requires : tie.Need-field-count-requires
-field-count-requires c κs = search needs
-
 unquoted-field-requires : tie.Need-unquoted-field-requires
 unquoted-field-requires c κs = search (needs, third)
 
 returns : tie.Need-returns
 returns c = search (needs, name-in-line)
-
-trim-start-requires : tie.Need-trim-start-requires
-trim-start-requires c κs = search needs
-
-trim-requires : tie.Need-trim-requires
-trim-requires c κs = search needs
 
 add-t5 : tie.Need-add-t5
 add-t5 c = omega (arith, left-fits _ _ _ (c .before .trim-start .ensures) (c .trim .ensures .bytes))
@@ -29,14 +17,4 @@ returns-2 : tie.Need-returns-2
 returns-2 c = search (needs, name-in-fallback)
 
 pub name-of-spec : {M : Type 1} → statement M
-name-of-spec =
-    tie.close
-    (tie.spec
-    skip-requires
-    field-count-requires
-    unquoted-field-requires
-    returns
-    trim-start-requires
-    trim-requires
-    add-t5
-    returns-2)
+name-of-spec = tie.close (tie.spec (λ c κs. search needs) (λ c κs. search needs) unquoted-field-requires returns (λ c κs. search needs) (λ c κs. search needs) add-t5 returns-2)

@@ -19,31 +19,5 @@ in-fallback : (n : OperatorName) (p : Place) (h : Handed) → n ≡ InFallback p
 unfolding nameIn
 in-fallback n p h e z = z ∙ ap (λ (m : OperatorName). nameIn (nameSays m)) (sym e)
 
-enum-known-name : tie.Need-enum-known-name
-enum-known-name c = search needs
-
-in-line-requires : tie.Need-in-line-requires
-in-line-requires c κs = search needs
-
-enum-known-name-2 : tie.Need-enum-known-name-2
-enum-known-name-2 c = search needs
-
-in-fallback-requires : tie.Need-in-fallback-requires
-in-fallback-requires c κs = search needs
-
-returns : tie.Need-returns
-returns c = search (needs, in-line)
-
-returns-2 : tie.Need-returns-2
-returns-2 c = search (needs, in-fallback)
-
 pub place-of-spec : {M : Type 1} → statement M
-place-of-spec =
-    tie.close
-    (tie.spec
-    enum-known-name
-    in-line-requires
-    enum-known-name-2
-    in-fallback-requires
-    returns
-    returns-2)
+place-of-spec = tie.close (tie.spec (λ c. search needs) (λ c κs. search needs) (λ c. search needs) (λ c κs. search needs) (λ c. search (needs, in-line)) (λ c. search (needs, in-fallback)))

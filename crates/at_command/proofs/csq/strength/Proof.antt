@@ -4,9 +4,6 @@ use Rattle.at_command.proofs.csq.Laws.{shifted-fits, shifted-is, shifte
 use Rattle.at_command.proofs.csq.strength.Statement.{statement}
 use Rattle.at_command.proofs.csq.strength.Tie as tie
 
-dbm-requires : tie.Need-dbm-requires
-dbm-requires c κs = search needs
-
 add-result : tie.Need-add-result
 add-result c = rw (c .dbm .ensures) (shifted-fits (c .before .args .rssi) (c .before .pre))
 
@@ -18,4 +15,4 @@ unfolding strengthOf
 returns c = rw (c .before .dbm .ensures, shifted-is (c .before .before .args .rssi) (c .before .before .pre), hundred, sixty-three)
 
 pub strength-spec : {M : Type 1} → statement M
-strength-spec = tie.close (tie.spec dbm-requires add-result int-to-float-result returns)
+strength-spec = tie.close (tie.spec (λ c κs. search needs) add-result int-to-float-result returns)

@@ -16,12 +16,6 @@ Inv-loop s sum₀ odd₀ i₀ sum odd i = (allDigits (drop i s) ≡ true) × (i 
 abbrev μ-loop : tie.MeasureT-loop
 μ-loop s sum₀ odd₀ i₀ sum odd i = length s - i
 
-loop-holds : tie.Need-loop-holds Inv-loop μ-loop
-loop-holds c = search needs
-
-shared-slice-read-d : tie.Need-shared-slice-read-d Inv-loop μ-loop
-shared-slice-read-d c = search needs
-
 sub-d : tie.Need-sub-d Inv-loop μ-loop
 sub-d c = omega (arith, is-low (c .before .before .before .before .args .s .now) (c .before .before .loop .i) (c .before .before .loop .inv .0) (c .before .loop-test .taken))
 
@@ -31,50 +25,17 @@ double-requires c κs = omega (arith, is-high (c .before .before .before .before
 add-sum : tie.Need-add-sum Inv-loop μ-loop
 add-sum c = omega (arith, is-high (c .before .before .before .before .before .before .args .s .now) (c .before .before .before .before .loop .i) (c .before .before .before .before .loop .inv .0) (c .before .before .before .loop-test .taken), c .double .ensures)
 
-add-i : tie.Need-add-i Inv-loop μ-loop
-add-i c = search needs
-
-loop-less : tie.Need-loop-less Inv-loop μ-loop
-loop-less c = search needs
-
 loop-again : tie.Need-loop-again Inv-loop μ-loop
 loop-again c = (digits-on (c .before .before .before .before .before .before .args .s .now) (c .before .before .before .before .loop .i) (c .before .before .before .before .loop .inv .0) (c .before .before .before .loop-test .taken), omega arith, omega (arith, is-high (c .before .before .before .before .before .before .args .s .now) (c .before .before .before .before .loop .i) (c .before .before .before .before .loop .inv .0) (c .before .before .before .loop-test .taken), c .double .ensures), omega arith, search (needs, luhn-odd))
 
 add-sum-2 : tie.Need-add-sum-2 Inv-loop μ-loop
 add-sum-2 c = omega (arith, is-high (c .before .before .before .before .before .args .s .now) (c .before .before .before .loop .i) (c .before .before .before .loop .inv .0) (c .before .before .loop-test .taken))
 
-add-i-2 : tie.Need-add-i-2 Inv-loop μ-loop
-add-i-2 c = search needs
-
-loop-less-2 : tie.Need-loop-less-2 Inv-loop μ-loop
-loop-less-2 c = search needs
-
 loop-again-2 : tie.Need-loop-again-2 Inv-loop μ-loop
 loop-again-2 c = (digits-on (c .before .before .before .before .before .args .s .now) (c .before .before .before .loop .i) (c .before .before .before .loop .inv .0) (c .before .before .loop-test .taken), omega arith, omega (arith, is-high (c .before .before .before .before .before .args .s .now) (c .before .before .before .loop .i) (c .before .before .before .loop .inv .0) (c .before .before .loop-test .taken)), omega arith, search (needs, luhn-even))
-
-sub-result : tie.Need-sub-result Inv-loop μ-loop
-sub-result c = search needs
 
 returns : tie.Need-returns Inv-loop μ-loop
 returns c = search (needs, luhn-end)
 
 pub check-digit-spec : {M : Type 1} → statement M
-check-digit-spec =
-    tie.close
-    (tie.spec
-    Inv-loop
-    μ-loop
-    loop-holds
-    shared-slice-read-d
-    sub-d
-    double-requires
-    add-sum
-    add-i
-    loop-less
-    loop-again
-    add-sum-2
-    add-i-2
-    loop-less-2
-    loop-again-2
-    sub-result
-    returns)
+check-digit-spec = tie.close (tie.spec Inv-loop μ-loop (λ c. search needs) (λ c. search needs) sub-d double-requires add-sum (λ c. search needs) (λ c. search needs) loop-again add-sum-2 (λ c. search needs) (λ c. search needs) loop-again-2 (λ c. search needs) returns)

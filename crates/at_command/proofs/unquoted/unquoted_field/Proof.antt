@@ -6,21 +6,6 @@ use lib.ListN.{length}
 use native.Mathlib.Omega.{arith}
 use Rattle.at_command.proofs.unquoted.Laws.{in-line, unquoted-at}
 
-skip-requires : tie.Need-skip-requires
-skip-requires c κs = search needs
-
-nth-field-requires : tie.Need-nth-field-requires
-nth-field-requires c κs = search needs
-
-field-start-requires : tie.Need-field-start-requires
-field-start-requires c κs = search needs
-
-trim-start-requires : tie.Need-trim-start-requires
-trim-start-requires c κs = search needs
-
-trim-requires : tie.Need-trim-requires
-trim-requires c κs = search needs
-
 add-start : tie.Need-add-start
 add-start c = let h : c .before .before .field-start .result + (c .before .trim-start .result + length (c .trim .result .now)) ≤ length (c .before .before .before .before .before .before .args .line .now) - 7 = search (needs, in-line) in omega arith
 
@@ -34,15 +19,4 @@ returns : tie.Need-returns
 returns c = search (needs, unquoted-at)
 
 pub unquoted-field-spec : {M : Type 1} → statement M
-unquoted-field-spec =
-    tie.close
-    (tie.spec
-    skip-requires
-    nth-field-requires
-    field-start-requires
-    trim-start-requires
-    trim-requires
-    add-start
-    add-start-2
-    add-t10
-    returns)
+unquoted-field-spec = tie.close (tie.spec (λ c κs. search needs) (λ c κs. search needs) (λ c κs. search needs) (λ c κs. search needs) (λ c κs. search needs) add-start add-start-2 add-t10 returns)

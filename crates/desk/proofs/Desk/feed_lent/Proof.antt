@@ -1,5 +1,5 @@
 -- A walk by hand, by the steps of `Lending`: the desk is copied out, `feed` is called on the copy, and its desk is stored back.
-use mathlib.Core.Path.{_≡_, refl, ap}
+use mathlib.Core.Path.{refl, ap}
 use Prim.Native.Nat.{ℕ}
 use mathlib.Core.List.{List, [], _∷_}
 use lib.ListN.{length}
@@ -37,8 +37,7 @@ use denote.Triple.Spec.{tripleOf}
 use denote.Triple.Statement.{Triple}
 use denote.Triple.Table.{entered, cited}
 use denote.Triple.Walked.{Stays, stay-ref, stay-dropped, gave-slice, goes-ref, goes-dropped, goes-gave-slice}
-use Rattle.desk.specs.Desk.{fed}
-use Rattle.desk.specs.Says.{stateOf, fedSays}
+use Rattle.desk.specs.Keeps.{FeedKeeps}
 use Rattle.desk.specs.declared.Desk.{Desk}
 use Rattle.desk.specs.declared.feed.Fed.{Fed}
 use Rattle.desk.proofs.Lending.{Of, Post, calls, ends, meets, mach, copied, stored}
@@ -57,7 +56,7 @@ use Rattle.desk.proofs.Desk.feed_lent.Code as code
 
 -- what `feed` ensures
 abbrev Fed-says : (κs : Lfts 2) → Args (work.ended .signature) κs → Fed → AtExit work.ended κs → Type 0
-Fed-says κs a r e = fedSays r (now (e .1 .1 .0)) ≡ fed (stateOf (a .0)) (now (a .1 .0)) (now (a .1 .1 .0))
+Fed-says κs a r e = FeedKeeps (a .0) (now (a .1 .0)) (now (a .1 .1 .0)) r (now (e .1 .1 .0))
 
 abbrev stayed : Stays (f.ended .signature .params) (f.ended .kept)
 stayed = (stay-ref (0 ∷ []) tt (plain (λ _. T.the-row)), (stay-dropped (shrSliceOf (1 ∷ []) tt (plain (λ _. u8))) yes, (gave-slice (2 ∷ []) tt (plain (λ _. u8)), tt)))

@@ -3,14 +3,8 @@ use borrow.Author.Needs.{needs}
 use Rattle.desk.proofs.Desk.open.Statement.{statement}
 use Rattle.desk.proofs.Desk.open.Tie as tie
 
-open-on-requires : tie.Need-open-on-requires
-open-on-requires c κs = search needs
-
-same-length : tie.Need-same-length
-same-length c = search needs
-
 returns : tie.Need-returns
 returns c = c .before .before .open-on .ensures _ (search needs)
 
 pub open-spec : {M : Type 1} → statement M
-open-spec = tie.close (tie.spec open-on-requires same-length returns)
+open-spec = tie.close (tie.spec (λ c κs. search needs) (λ c. search needs) returns)

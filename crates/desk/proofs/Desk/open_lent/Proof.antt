@@ -1,5 +1,5 @@
 -- A walk by hand, by the steps of `Lending`: the desk is copied out, `open` is called on the copy, and its desk is stored back.
-use mathlib.Core.Path.{_≡_, refl, ap}
+use mathlib.Core.Path.{refl, ap}
 use Prim.Native.Nat.{ℕ}
 use mathlib.Core.List.{List, [], _∷_}
 use lib.ListN.{length}
@@ -37,13 +37,10 @@ use denote.Triple.Spec.{tripleOf}
 use denote.Triple.Statement.{Triple}
 use denote.Triple.Table.{entered, cited}
 use denote.Triple.Walked.{Stays, stay-ref, stay-dropped, gave-slice, goes-ref, goes-dropped, goes-gave-slice}
-use Rattle.desk.specs.Desk.{opened}
-use Rattle.desk.specs.Says.{stateOf, openedSays}
+use Rattle.desk.specs.Keeps.{OpenKeeps}
 use Rattle.desk.specs.declared.Desk.{Desk}
 use Rattle.desk.specs.declared.open.Opened.{Opened}
 use Rattle.at_command.specs.declared.request.Request.{Request}
-use Rattle.at_command.specs.Request.{encodeReading}
-use Rattle.at_command.specs.says.Request.{asked, awaitedBy}
 use Rattle.desk.proofs.Lending.{Of, Post, calls, ends, meets, mach, copied, stored}
 use Rattle.desk.proofs.Desk as T
 use Rattle.desk.proofs.open.Opened as F
@@ -62,9 +59,7 @@ use Rattle.desk.proofs.Desk.open_lent.Code as code
 
 -- what `open` ensures
 abbrev Opened-says : (κs : Lfts 3) → Args (work.ended .signature) κs → Opened → AtExit work.ended κs → Type 0
-Opened-says κs a r e =
-    openedSays r (now (e .1 .1 .1 .1 .0))
-    ≡ opened (stateOf (a .0)) (awaitedBy (a .1 .0)) (encodeReading (asked (a .1 .0) (now (a .1 .1 .0)) (now (a .1 .1 .1 .0))) (length (now (a .1 .1 .1 .1 .0)))) (now (a .1 .1 .1 .1 .0))
+Opened-says κs a r e = OpenKeeps (a .0) (a .1 .0) (now (a .1 .1 .0)) (now (a .1 .1 .1 .0)) (now (a .1 .1 .1 .1 .0)) r (now (e .1 .1 .1 .1 .0))
 
 abbrev stayed : Stays (f.ended .signature .params) (f.ended .kept)
 stayed = (

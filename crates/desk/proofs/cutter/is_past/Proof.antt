@@ -6,14 +6,5 @@ use Rattle.desk.proofs.cutter.is_past.Tie as tie
 
 ruleset pasts = (needs, past-below, past-at, past-above)
 
-returns : tie.Need-returns
-returns c = search pasts
-
-returns-2 : tie.Need-returns-2
-returns-2 c = search pasts
-
-returns-3 : tie.Need-returns-3
-returns-3 c = search pasts
-
 pub is-past-spec : {M : Type 1} → statement M
-is-past-spec = tie.close (tie.spec returns returns-2 returns-3)
+is-past-spec = tie.close (tie.spec (λ c. search pasts) (λ c. search pasts) (λ c. search pasts))

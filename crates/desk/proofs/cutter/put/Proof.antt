@@ -17,24 +17,6 @@ abbrev μ-loop : tie.MeasureT-loop
 loop-holds : tie.Need-loop-holds Inv-loop μ-loop
 loop-holds c = (omega arith, fill-none _ _ _ _)
 
-add-line : tie.Need-add-line Inv-loop μ-loop
-add-line c = search needs
-
-shared-slice-read-line : tie.Need-shared-slice-read-line Inv-loop μ-loop
-shared-slice-read-line c = search needs
-
-add-line-2 : tie.Need-add-line-2 Inv-loop μ-loop
-add-line-2 c = search needs
-
-element-write-line : tie.Need-element-write-line Inv-loop μ-loop
-element-write-line c = search needs
-
-add-k : tie.Need-add-k Inv-loop μ-loop
-add-k c = search needs
-
-loop-less : tie.Need-loop-less Inv-loop μ-loop
-loop-less c = search needs
-
 loop-again : tie.Need-loop-again Inv-loop μ-loop
 loop-again c = let ask = c .before .before .before .pre in
     let k = c .before .before .loop .k in
@@ -52,11 +34,11 @@ put-spec =
     Inv-loop
     μ-loop
     loop-holds
-    add-line
-    shared-slice-read-line
-    add-line-2
-    element-write-line
-    add-k
-    loop-less
+    (λ c. search needs)
+    (λ c. search needs)
+    (λ c. search needs)
+    (λ c. search needs)
+    (λ c. search needs)
+    (λ c. search needs)
     loop-again
     returns)

@@ -15,35 +15,14 @@ Inv-loop line₀ start chunk -count len₀ i₀ line len i = (i ≤ length chunk
 abbrev μ-loop : tie.MeasureT-loop
 μ-loop line₀ start chunk -count len₀ i₀ line len i = length chunk - i
 
-count-of-requires : tie.Need-count-of-requires Inv-loop μ-loop
-count-of-requires c κs = search needs
-
 loop-holds : tie.Need-loop-holds Inv-loop μ-loop
 loop-holds c = (omega arith, search needs, search needs, refl)
 
 fill-requires : tie.Need-fill-requires Inv-loop μ-loop
 fill-requires c κs = c .before .loop .inv .1
 
-add-len : tie.Need-add-len Inv-loop μ-loop
-add-len c = search needs
-
-add-i : tie.Need-add-i Inv-loop μ-loop
-add-i c = search needs
-
-shared-slice-read-push : tie.Need-shared-slice-read-push Inv-loop μ-loop
-shared-slice-read-push c = search needs
-
 push-requires : tie.Need-push-requires Inv-loop μ-loop
 push-requires c κs = c .before .before .before .fill .ensures .long ∙ c .before .before .before .before .before .loop .inv .1
-
-add-i-2 : tie.Need-add-i-2 Inv-loop μ-loop
-add-i-2 c = search needs
-
-is-stop-requires : tie.Need-is-stop-requires Inv-loop μ-loop
-is-stop-requires c κs = search needs
-
-loop-less : tie.Need-loop-less Inv-loop μ-loop
-loop-less c = search needs
 
 loop-again : tie.Need-loop-again Inv-loop μ-loop
 loop-again c =
@@ -67,16 +46,16 @@ search-spec =
     (tie.spec
     Inv-loop
     μ-loop
-    count-of-requires
+    (λ c κs. search needs)
     loop-holds
     fill-requires
-    add-len
-    add-i
-    shared-slice-read-push
+    (λ c. search needs)
+    (λ c. search needs)
+    (λ c. search needs)
     push-requires
-    add-i-2
-    is-stop-requires
-    loop-less
+    (λ c. search needs)
+    (λ c κs. search needs)
+    (λ c. search needs)
     loop-again
     returns
     returns-2)

@@ -4,20 +4,11 @@ use borrow.Author.Needs.{needs}
 use Rattle.desk.proofs.judge.respond.Statement.{statement}
 use Rattle.desk.proofs.judge.respond.Tie as tie
 
-same-requires : tie.Need-same-requires
-same-requires c κs = search needs
-
 returns : tie.Need-returns
 returns c = rw (sym (c .before .same .ensures) ∙ c .if1 .taken)
 
-same-requires-2 : tie.Need-same-requires-2
-same-requires-2 c κs = search needs
-
 returns-2 : tie.Need-returns-2
 returns-2 c = rw (sym (c .before .before .before .same .ensures) ∙ c .before .before .if1 .left, sym (c .before .same2 .ensures) ∙ c .if2 .taken)
-
-same-requires-3 : tie.Need-same-requires-3
-same-requires-3 c κs = search needs
 
 returns-3 : tie.Need-returns-3
 returns-3 c = rw (sym (c .before .before .before .before .before .same .ensures) ∙ c .before .before .before .before .if1 .left, sym (c .before .before .before .same2 .ensures) ∙ c .before .before .if2 .left, sym (c .before .same3 .ensures) ∙ c .if3 .taken)
@@ -28,4 +19,4 @@ returns-4 c = rw (sym (c .before .before .before .before .before .same .ensures)
 pub respond-spec : {M : Type 1} → statement M
 respond-spec =
     tie.close
-    (tie.spec same-requires returns same-requires-2 returns-2 same-requires-3 returns-3 returns-4)
+    (tie.spec (λ c κs. search needs) returns (λ c κs. search needs) returns-2 (λ c κs. search needs) returns-3 returns-4)

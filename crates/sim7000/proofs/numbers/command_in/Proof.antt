@@ -7,20 +7,8 @@ use Rattle.sim7000.proofs.numbers.command_in.Tie as tie
 returns : tie.Need-returns
 returns c = awaited-none _ (c .if1 .taken)
 
-sub-kind-at : tie.Need-sub-kind-at
-sub-kind-at c = search needs
-
-kind-at-requires : tie.Need-kind-at-requires
-kind-at-requires c κs = search needs
-
 returns-2 : tie.Need-returns-2
 returns-2 c = awaited-one _ (c .before .before .if1 .left) (c .before .if2 .taken) (c .kind-at .ensures)
-
-kind-at-requires-2 : tie.Need-kind-at-requires-2
-kind-at-requires-2 c κs = search needs
-
-kind-at-requires-3 : tie.Need-kind-at-requires-3
-kind-at-requires-3 c κs = search needs
 
 returns-3 : tie.Need-returns-3
 returns-3 c = awaited-two _ (c .before .before .before .before .if1 .left) (c .before .before .before .if2 .left) (c .before .before .if3 .taken) (c .before .kind-at2 .ensures) (c .kind-at3 .ensures)
@@ -33,10 +21,10 @@ command-in-spec =
     tie.close
     (tie.spec
     returns
-    sub-kind-at
-    kind-at-requires
+    (λ c. search needs)
+    (λ c κs. search needs)
     returns-2
-    kind-at-requires-2
-    kind-at-requires-3
+    (λ c κs. search needs)
+    (λ c κs. search needs)
     returns-3
     returns-4)

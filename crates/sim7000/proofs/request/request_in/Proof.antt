@@ -6,9 +6,6 @@ use borrow.Author.Needs.{needs}
 use Rattle.sim7000.proofs.request.request_in.Statement.{statement}
 use Rattle.sim7000.proofs.request.request_in.Tie as tie
 
-set-format-requires : tie.Need-set-format-requires
-set-format-requires c κs = search needs
-
 returns : tie.Need-returns
 unfolding askedBy
 returns c = λ first second. rw (c .match .keys1)
@@ -68,7 +65,7 @@ pub request-in-spec : {M : Type 1} → statement M
 request-in-spec =
     tie.close
     (tie.spec
-    set-format-requires
+    (λ c κs. search needs)
     returns
     returns-2
     returns-3

@@ -1,33 +1,17 @@
 -- `time_values` meets its contract: each number is the one that the layout has at its place.
+use mathlib.Core.Path.{refl}
+use Rattle.sim7000.proofs.Rows.{filled}
 use borrow.Author.Needs.{needs}
 use Rattle.sim7000.proofs.values.time_values.Statement.{statement}
 use Rattle.sim7000.proofs.values.time_values.Tie as tie
-
-time-code-requires : tie.Need-time-code-requires
-time-code-requires c κs = search needs
-
-has-time-requires : tie.Need-has-time-requires
-has-time-requires c κs = search needs
-
-time-start-requires : tie.Need-time-start-requires
-time-start-requires c κs = search needs
-
-time-end-requires : tie.Need-time-end-requires
-time-end-requires c κs = search needs
-
-row-requires : tie.Need-row-requires
-row-requires c κs = search needs
-
-returns : tie.Need-returns
-returns c = cc
 
 pub time-values-spec : {M : Type 1} → statement M
 time-values-spec =
     tie.close
     (tie.spec
-    time-code-requires
-    has-time-requires
-    time-start-requires
-    time-end-requires
-    row-requires
-    returns)
+    (λ c κs. search needs)
+    (λ c κs. search needs)
+    (λ c κs. search needs)
+    (λ c κs. search needs)
+    (λ c κs. search needs)
+    (λ c. filled _ _ _ _ _ _ (c .row .ensures) _ _ _ _ _ (c .before .before .before .before .time-code .ensures) (c .before .before .before .has-time .ensures) (c .before .before .time-start .ensures) (c .before .time-end .ensures) refl))

@@ -14,41 +14,17 @@ Inv-loop s lo hi i₀ i = allWithin lo hi s ≡ allWithin lo hi (drop i s)
 abbrev μ-loop : tie.MeasureT-loop
 μ-loop s lo hi i₀ i = length s - i
 
-loop-holds : tie.Need-loop-holds Inv-loop μ-loop
-loop-holds c = search needs
-
-shared-slice-read-x : tie.Need-shared-slice-read-x Inv-loop μ-loop
-shared-slice-read-x c = search needs
-
-returns : tie.Need-returns Inv-loop μ-loop
-returns c = search (needs, within-low)
-
-returns-2 : tie.Need-returns-2 Inv-loop μ-loop
-returns-2 c = search (needs, within-high)
-
-add-i : tie.Need-add-i Inv-loop μ-loop
-add-i c = search needs
-
-loop-less : tie.Need-loop-less Inv-loop μ-loop
-loop-less c = search needs
-
-loop-again : tie.Need-loop-again Inv-loop μ-loop
-loop-again c = search (needs, within-more)
-
-returns-3 : tie.Need-returns-3 Inv-loop μ-loop
-returns-3 c = search (needs, within-end)
-
 pub all-within-spec : {M : Type 1} → statement M
 all-within-spec =
     tie.close
     (tie.spec
     Inv-loop
     μ-loop
-    loop-holds
-    shared-slice-read-x
-    returns
-    returns-2
-    add-i
-    loop-less
-    loop-again
-    returns-3)
+    (λ c. search needs)
+    (λ c. search needs)
+    (λ c. search (needs, within-low))
+    (λ c. search (needs, within-high))
+    (λ c. search needs)
+    (λ c. search needs)
+    (λ c. search (needs, within-more))
+    (λ c. search (needs, within-end)))

@@ -14,45 +14,18 @@ Inv-loop s b n at₀ k₀ at k = (k ≤ n) × (at ≤ length s) × (placeOf n (f
 abbrev μ-loop : tie.MeasureT-loop
 μ-loop s b n at₀ k₀ at k = n - k
 
-loop-holds : tie.Need-loop-holds Inv-loop μ-loop
-loop-holds c = search (needs, place-begin)
-
-find-requires : tie.Need-find-requires Inv-loop μ-loop
-find-requires c κs = search needs
-
-add-result : tie.Need-add-result Inv-loop μ-loop
-add-result c = search needs
-
-returns : tie.Need-returns Inv-loop μ-loop
-returns c = search (needs, place-past)
-
-add-at : tie.Need-add-at Inv-loop μ-loop
-add-at c = search needs
-
-add-k : tie.Need-add-k Inv-loop μ-loop
-add-k c = search needs
-
-loop-less : tie.Need-loop-less Inv-loop μ-loop
-loop-less c = search needs
-
-loop-again : tie.Need-loop-again Inv-loop μ-loop
-loop-again c = search (needs, place-more)
-
-returns-2 : tie.Need-returns-2 Inv-loop μ-loop
-returns-2 c = search (needs, place-done)
-
 pub field-start-spec : {M : Type 1} → statement M
 field-start-spec =
     tie.close
     (tie.spec
     Inv-loop
     μ-loop
-    loop-holds
-    find-requires
-    add-result
-    returns
-    add-at
-    add-k
-    loop-less
-    loop-again
-    returns-2)
+    (λ c. search (needs, place-begin))
+    (λ c κs. search needs)
+    (λ c. search needs)
+    (λ c. search (needs, place-past))
+    (λ c. search needs)
+    (λ c. search needs)
+    (λ c. search needs)
+    (λ c. search (needs, place-more))
+    (λ c. search (needs, place-done)))

@@ -7,14 +7,12 @@ use Rattle.text.proofs.line.check_line.Tie as tie
 returns : tie.Need-returns
 returns c = check-long _ (omega arith)
 
-is-utf8-requires : tie.Need-is-utf8-requires
-is-utf8-requires c κs = search needs
-
 returns-2 : tie.Need-returns-2
 returns-2 c = check-good _ _ (omega arith) (c .before .is-utf8 .ensures) (c .if2 .taken)
 
-returns-3 : tie.Need-returns-3
-returns-3 c = search (needs, check-bad)
-
 pub check-line-spec : {M : Type 1} → statement M
-check-line-spec = tie.close (tie.spec returns is-utf8-requires returns-2 returns-3)
+check-line-spec = tie.close (tie.spec
+    returns
+    (λ c κs. search needs)
+    returns-2
+    (λ c. search (needs, check-bad)))

@@ -14,37 +14,10 @@ Inv-loop s last i₀ i = (i ≤ length s) × (utf8 s ≡ utf8 (drop i s))
 abbrev μ-loop : tie.MeasureT-loop
 μ-loop s last i₀ i = length s - i
 
-returns : tie.Need-returns Inv-loop μ-loop
-returns c = search needs
-
-sub-last : tie.Need-sub-last Inv-loop μ-loop
-sub-last c = search needs
-
-loop-holds : tie.Need-loop-holds Inv-loop μ-loop
-loop-holds c = search needs
-
-eight-requires : tie.Need-eight-requires Inv-loop μ-loop
-eight-requires c κs = search needs
-
-returns-2 : tie.Need-returns-2 Inv-loop μ-loop
-returns-2 c = search needs
-
-add-i : tie.Need-add-i Inv-loop μ-loop
-add-i c = search needs
-
-loop-less : tie.Need-loop-less Inv-loop μ-loop
-loop-less c = search needs
-
 loop-again : tie.Need-loop-again Inv-loop μ-loop
 loop-again c = let l = c .before .before .before in
     let s = l .before .before .before .args .s .now in
     (search needs, ascii-run s (l .loop .i) 8 (search needs) (l .loop .inv .1) (c .before .eight .ensures (c .if2 .left)))
-
-eight-requires-2 : tie.Need-eight-requires-2 Inv-loop μ-loop
-eight-requires-2 c κs = search needs
-
-returns-3 : tie.Need-returns-3 Inv-loop μ-loop
-returns-3 c = search needs
 
 returns-4 : tie.Need-returns-4 Inv-loop μ-loop
 returns-4 c = let l = c .before .before .before in
@@ -57,14 +30,14 @@ ascii-front-spec =
     (tie.spec
     Inv-loop
     μ-loop
-    returns
-    sub-last
-    loop-holds
-    eight-requires
-    returns-2
-    add-i
-    loop-less
+    (λ c. search needs)
+    (λ c. search needs)
+    (λ c. search needs)
+    (λ c κs. search needs)
+    (λ c. search needs)
+    (λ c. search needs)
+    (λ c. search needs)
     loop-again
-    eight-requires-2
-    returns-3
+    (λ c κs. search needs)
+    (λ c. search needs)
     returns-4)

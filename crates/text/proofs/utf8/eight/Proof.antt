@@ -4,21 +4,6 @@ use Rattle.text.proofs.Utf8Laws.{ascii-halves}
 use Rattle.text.proofs.utf8.eight.Statement.{statement}
 use Rattle.text.proofs.utf8.eight.Tie as tie
 
-add-four : tie.Need-add-four
-add-four c = search needs
-
-four-requires : tie.Need-four-requires
-four-requires c κs = search needs
-
-mul-result : tie.Need-mul-result
-mul-result c = search needs
-
-four-requires-2 : tie.Need-four-requires-2
-four-requires-2 c κs = search needs
-
-add-result : tie.Need-add-result
-add-result c = search needs
-
 returns : tie.Need-returns
 returns c = let s = c .before .before .before .args .s .now in
     let x = c .before .four .ensures in
@@ -27,4 +12,10 @@ returns c = let s = c .before .before .before .args .s .now in
 
 pub eight-spec : {M : Type 1} → statement M
 eight-spec =
-    tie.close (tie.spec add-four four-requires mul-result four-requires-2 add-result returns)
+    tie.close (tie.spec
+    (λ c. search needs)
+    (λ c κs. search needs)
+    (λ c. search needs)
+    (λ c κs. search needs)
+    (λ c. search needs)
+    returns)

@@ -4,21 +4,6 @@ use Rattle.text.proofs.Utf8Laws.{ascii-halves}
 use Rattle.text.proofs.utf8.four.Statement.{statement}
 use Rattle.text.proofs.utf8.four.Tie as tie
 
-add-two : tie.Need-add-two
-add-two c = search needs
-
-two-requires : tie.Need-two-requires
-two-requires c κs = search needs
-
-mul-result : tie.Need-mul-result
-mul-result c = search needs
-
-two-requires-2 : tie.Need-two-requires-2
-two-requires-2 c κs = search needs
-
-add-result : tie.Need-add-result
-add-result c = search needs
-
 returns : tie.Need-returns
 returns c = let s = c .before .before .before .args .s .now in
     let x = c .before .two .ensures in
@@ -26,4 +11,10 @@ returns c = let s = c .before .before .before .args .s .now in
     (search needs, ascii-halves s _ 16 0x8080 2 _ _ (y .0) (omega arith) (y .1) (x .1))
 
 pub four-spec : {M : Type 1} → statement M
-four-spec = tie.close (tie.spec add-two two-requires mul-result two-requires-2 add-result returns)
+four-spec = tie.close (tie.spec
+    (λ c. search needs)
+    (λ c κs. search needs)
+    (λ c. search needs)
+    (λ c κs. search needs)
+    (λ c. search needs)
+    returns)

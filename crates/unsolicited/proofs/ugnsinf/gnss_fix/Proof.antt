@@ -1,106 +1,56 @@
--- Four parts that must be read, and the date.
+-- Twelve values that are read, then one test of all, and the date.
 use borrow.Author.Needs.{needs}
 use Rattle.unsolicited.proofs.ugnsinf.gnss_fix.Statement.{statement}
 use Rattle.unsolicited.proofs.ugnsinf.gnss_fix.Tie as tie
-use mathlib.Core.Path.{refl}
-use Rattle.unsolicited.specs.Gnss.{fixOf, Report, positionOf, motionOf, dilutionOf, satellitesOf}
-use Rattle.unsolicited.specs.says.Gnss.{positionSays, positionOptionSays, motionSays, motionOptionSays, dilutionSays, dilutionOptionSays, satellitesOptionSays}
-use Rattle.unsolicited.specs.declared.ugnsinf.OptionPosition.the-variants as P
-use Rattle.unsolicited.specs.declared.ugnsinf.OptionMotion.the-variants as M
-use Rattle.unsolicited.specs.declared.ugnsinf.OptionDilution.the-variants as D
-use Rattle.unsolicited.specs.declared.ugnsinf.OptionSatellites.the-variants as S
-use Rattle.unsolicited.proofs.Reports.{fixed}
-use mathlib.Core.List.{List}
-use Prim.Native.Nat.{ℕ}
-use Rattle.text.specs.Field.{fields}
-use Rattle.text.proofs.Readings.{got, lacked, need-so}
+use native.Mathlib.Omega.{arith}
+use Rattle.unsolicited.proofs.Reports.{fix-read, fix-not}
 
-position-of-requires : tie.Need-position-of-requires
-position-of-requires c κs = search needs
+count-or-zero-requires-2 : tie.Need-count-or-zero-requires-2
+count-or-zero-requires-2 c κs = (c .before .before .before .before .before .before .before .before .before .before .pre, omega arith)
 
-enum-known-p : tie.Need-enum-known-p
-enum-known-p c = search needs
+count-or-zero-requires-3 : tie.Need-count-or-zero-requires-3
+count-or-zero-requires-3 c κs = (c .before .before .before .before .before .before .before .before .before .before .before .pre, omega arith)
 
-enum-told : tie.Need-enum-told
-enum-told c = search needs
-
-returns : tie.Need-returns
-unfolding fixOf
-returns c = search (lacked {B = Report} positionOptionSays (λ (t : List ℕ). positionOf (fields 44 t)) P.None refl)
-
-motion-of-requires : tie.Need-motion-of-requires
-motion-of-requires c κs = search needs
-
-enum-known-m : tie.Need-enum-known-m
-enum-known-m c = search needs
-
-enum-told-2 : tie.Need-enum-told-2
-enum-told-2 c = search needs
-
-returns-2 : tie.Need-returns-2
-unfolding fixOf
-returns-2 c = search (got {B = Report} positionOptionSays (λ (t : List ℕ). positionOf (fields 44 t)) P.Some positionSays (λ x. refl), lacked {B = Report} motionOptionSays (λ (t : List ℕ). motionOf (fields 44 t)) M.None refl)
-
-dilution-of-requires : tie.Need-dilution-of-requires
-dilution-of-requires c κs = search needs
-
-enum-known-d : tie.Need-enum-known-d
-enum-known-d c = search needs
-
-enum-told-3 : tie.Need-enum-told-3
-enum-told-3 c = search needs
-
-returns-3 : tie.Need-returns-3
-unfolding fixOf
-returns-3 c = search (got {B = Report} positionOptionSays (λ (t : List ℕ). positionOf (fields 44 t)) P.Some positionSays (λ x. refl), got {B = Report} motionOptionSays (λ (t : List ℕ). motionOf (fields 44 t)) M.Some motionSays (λ x. refl), lacked {B = Report} dilutionOptionSays (λ (t : List ℕ). dilutionOf (fields 44 t)) D.None refl)
-
-satellites-of-requires : tie.Need-satellites-of-requires
-satellites-of-requires c κs = search needs
-
-enum-known-s : tie.Need-enum-known-s
-enum-known-s c = search needs
-
-enum-told-4 : tie.Need-enum-told-4
-enum-told-4 c = search needs
-
-returns-4 : tie.Need-returns-4
-unfolding fixOf
-returns-4 c = search (got {B = Report} positionOptionSays (λ (t : List ℕ). positionOf (fields 44 t)) P.Some positionSays (λ x. refl), got {B = Report} motionOptionSays (λ (t : List ℕ). motionOf (fields 44 t)) M.Some motionSays (λ x. refl), got {B = Report} dilutionOptionSays (λ (t : List ℕ). dilutionOf (fields 44 t)) D.Some dilutionSays (λ x. refl), lacked {B = Report} satellitesOptionSays (λ (t : List ℕ). satellitesOf (fields 44 t)) S.None refl)
+count-or-zero-requires-4 : tie.Need-count-or-zero-requires-4
+count-or-zero-requires-4 c κs = (c .before .before .before .before .before .before .before .before .before .before .before .before .pre, omega arith)
 
 date-or-zero-requires : tie.Need-date-or-zero-requires
-date-or-zero-requires c κs = search needs
+date-or-zero-requires c κs = c .before .before .before .before .before .before .before .before .before .before .before .before .before .before .before .before .before .before .before .before .before .before .before .before .before .before .pre
 
-returns-5 : tie.Need-returns-5
-unfolding fixOf
-returns-5 c = let s = c .before .before in
-    let d = s .before .before .before .before in
-    let m = d .before .before .before .before in
-    let p = m .before .before .before .before in
-    need-so _ _ _ _ (rw (p .p .given .1) at (p .before .before .position-of .ensures))
-    (need-so _ _ _ _ (rw (m .m .given .1) at (m .before .before .motion-of .ensures))
-    (need-so _ _ _ _ (rw (d .d .given .1) at (d .before .before .dilution-of .ensures))
-    (need-so _ _ _ _ (rw (s .s .given .1) at (s .before .before .satellites-of .ensures))
-    (fixed _ _ _ _ _ _ (c .date-or-zero .ensures)))))
+returns : tie.Need-returns
+returns c =
+    let m12 = c .before .before .before .before .before .before .before .before .before .before .before .before .before .before in
+    let m11 = m12 .before in
+    let m10 = m11 .before in
+    let m9 = m10 .before in
+    let m8 = m9 .before in
+    let m7 = m8 .before in
+    let m6 = m7 .before in
+    let m5 = m6 .before in
+    let m4 = m5 .before in
+    let m3 = m4 .before in
+    let m2 = m3 .before in
+    let m1 = m2 .before in
+    fix-read _ (m1 .float-at .result) (m2 .float-at2 .result) (m3 .float-at3 .result) (m4 .float-or-zero .result) (m5 .float-or-zero2 .result) (m6 .float-or-zero3 .result) (m7 .float-or-zero4 .result) (m8 .float-or-zero5 .result) (m9 .count-or-zero .result) (m10 .count-or-zero2 .result) (m11 .count-or-zero3 .result) (m12 .count-or-zero4 .result) (m1 .float-at .ensures) (m2 .float-at2 .ensures) (m3 .float-at3 .ensures) (m4 .float-or-zero .ensures) (m5 .float-or-zero2 .ensures) (m6 .float-or-zero3 .ensures) (m7 .float-or-zero4 .ensures) (m8 .float-or-zero5 .ensures) (m9 .count-or-zero .ensures) (m10 .count-or-zero2 .ensures) (m11 .count-or-zero3 .ensures) (m12 .count-or-zero4 .ensures) _ (c .date-or-zero .ensures) (c .before .if1 .taken)
+
+returns-2 : tie.Need-returns-2
+returns-2 c =
+    let m12 = c .before .before .before .before .before .before .before .before .before .before .before .before .before in
+    let m11 = m12 .before in
+    let m10 = m11 .before in
+    let m9 = m10 .before in
+    let m8 = m9 .before in
+    let m7 = m8 .before in
+    let m6 = m7 .before in
+    let m5 = m6 .before in
+    let m4 = m5 .before in
+    let m3 = m4 .before in
+    let m2 = m3 .before in
+    let m1 = m2 .before in
+    fix-not _ (m1 .float-at .result) (m2 .float-at2 .result) (m3 .float-at3 .result) (m4 .float-or-zero .result) (m5 .float-or-zero2 .result) (m6 .float-or-zero3 .result) (m7 .float-or-zero4 .result) (m8 .float-or-zero5 .result) (m9 .count-or-zero .result) (m10 .count-or-zero2 .result) (m11 .count-or-zero3 .result) (m12 .count-or-zero4 .result) (m1 .float-at .ensures) (m2 .float-at2 .ensures) (m3 .float-at3 .ensures) (m4 .float-or-zero .ensures) (m5 .float-or-zero2 .ensures) (m6 .float-or-zero3 .ensures) (m7 .float-or-zero4 .ensures) (m8 .float-or-zero5 .ensures) (m9 .count-or-zero .ensures) (m10 .count-or-zero2 .ensures) (m11 .count-or-zero3 .ensures) (m12 .count-or-zero4 .ensures) (c .if1 .left)
 
 pub gnss-fix-spec : {M : Type 1} → statement M
 gnss-fix-spec =
     tie.close
-    (tie.spec
-    position-of-requires
-    enum-known-p
-    enum-told
-    returns
-    motion-of-requires
-    enum-known-m
-    enum-told-2
-    returns-2
-    dilution-of-requires
-    enum-known-d
-    enum-told-3
-    returns-3
-    satellites-of-requires
-    enum-known-s
-    enum-told-4
-    returns-4
-    date-or-zero-requires
-    returns-5)
+    (tie.spec (λ c κs. search needs) (λ c κs. search needs) (λ c κs. search needs) (λ c κs. search needs) (λ c κs. search needs) (λ c κs. search needs) (λ c κs. search needs)
+    (λ c κs. search needs) (λ c κs. search needs) count-or-zero-requires-2 count-or-zero-requires-3 count-or-zero-requires-4 date-or-zero-requires returns returns-2)

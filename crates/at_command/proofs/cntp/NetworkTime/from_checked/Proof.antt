@@ -4,29 +4,6 @@ use Rattle.at_command.proofs.cntp.NetworkTime.from_checked.Tie as tie
 use Rattle.text.proofs.Readings.{reader}
 use Rattle.at_command.specs.Cntp.{cntpText}
 
-slice-aggregate-starts-with : tie.Need-slice-aggregate-starts-with
-slice-aggregate-starts-with c = search needs
-
-starts-with-requires : tie.Need-starts-with-requires
-starts-with-requires c κs = search needs
-
-returns : tie.Need-returns
-unfolding cntpText
-returns c = search reader
-
-network-time-requires : tie.Need-network-time-requires
-network-time-requires c κs = search needs
-
-returns-2 : tie.Need-returns-2
-unfolding cntpText
-returns-2 c = search reader
-
 pub from-checked-spec : {M : Type 1} → statement M
-from-checked-spec =
-    tie.close
-    (tie.spec
-    slice-aggregate-starts-with
-    starts-with-requires
-    returns
-    network-time-requires
-    returns-2)
+unfolding cntpText
+from-checked-spec = tie.close (tie.spec (λ c. search needs) (λ c κs. search needs) (λ c. search reader) (λ c κs. search needs) (λ c. search reader))

@@ -8,37 +8,6 @@ use Rattle.at_command.specs.declared.gsn.ImeiAnswer.the-variants.{Value,
 use Rattle.at_command.proofs.gsn.Imei.imei_at.Statement.{statement}
 use Rattle.at_command.proofs.gsn.Imei.imei_at.Tie as tie
 
-from-line-requires : tie.Need-from-line-requires
-from-line-requires c κs = search needs
-
-enum-known-v : tie.Need-enum-known-v
-enum-known-v c = search needs
-
-in-line-requires : tie.Need-in-line-requires
-in-line-requires c κs = search needs
-
-enum-known-k : tie.Need-enum-known-k
-enum-known-k c = search needs
-
-nowhere-requires : tie.Need-nowhere-requires
-nowhere-requires c κs = search needs
-
-returns : tie.Need-returns
-unfolding imeiHanded
-returns c = search (needs, of-read says inLine Value imeiSays (λ v. refl))
-
-returns-2 : tie.Need-returns-2
-unfolding imeiHanded
-returns-2 c = search (needs, of-refused says inLine Refused (λ k. refl))
-
 pub imei-at-spec : {M : Type 1} → statement M
-imei-at-spec =
-    tie.close
-    (tie.spec
-    from-line-requires
-    enum-known-v
-    in-line-requires
-    enum-known-k
-    nowhere-requires
-    returns
-    returns-2)
+unfolding imeiHanded
+imei-at-spec = tie.close (tie.spec (λ c κs. search needs) (λ c. search needs) (λ c κs. search needs) (λ c. search needs) (λ c κs. search needs) (λ c. search (needs, of-read says inLine Value imeiSays (λ v. refl))) (λ c. search (needs, of-refused says inLine Refused (λ k. refl))))

@@ -8,35 +8,14 @@ use Rattle.at_command.proofs.Writing.{refuses, refuses-7, writes, first
 use Rattle.at_command.proofs.httptofs.DownloadToFileSystem.encode.Statement.{statement}
 use Rattle.at_command.proofs.httptofs.DownloadToFileSystem.encode.Tie as tie
 
-refusal-requires : tie.Need-refusal-requires
-refusal-requires c κs = search needs
-
 returns : tie.Need-returns
 returns c = let a = c .before .before .before .before .before .args in
     refuses (downloadToFileSystem (now (a .url)) (now (a .file-path))) _ _ (c .before .refusal .ensures) (c .if1 .taken)
-
-quoted-size-requires : tie.Need-quoted-size-requires
-quoted-size-requires c κs = search first-limited
-
-add-if2 : tie.Need-add-if2
-add-if2 c = search needs
-
-quoted-size-requires-2 : tie.Need-quoted-size-requires-2
-quoted-size-requires-2 c κs = omega (arith, second-limited _ _ _ _ _ (c .before .before .refusal .ensures) (c .before .if1 .left))
-
-add-if2-2 : tie.Need-add-if2-2
-add-if2-2 c = search needs
 
 returns-2 : tie.Need-returns-2
 returns-2 c = let s = c .before .before .before in
     let a = s .before .before .before .before .before .args in
     refuses-7 (downloadToFileSystem (now (a .url)) (now (a .file-path))) _ _ (s .before .refusal .ensures) (s .if1 .left) _ (simp length-append (omega arith)) (c .if2 .taken)
-
-lay-download-requires : tie.Need-lay-download-requires
-lay-download-requires c κs = search needs
-
-same-length : tie.Need-same-length
-same-length c = search needs
 
 returns-3 : tie.Need-returns-3
 returns-3 c = let s = c .before .before .before .before .before .before .before in
@@ -44,16 +23,4 @@ returns-3 c = let s = c .before .before .before .before .before .before .before 
     writes (downloadToFileSystem (now (a .url)) (now (a .file-path))) _ _ (s .before .refusal .ensures) (s .if1 .left) _ _ (c .before .before .lay-download .ensures)
 
 pub encode-spec : {M : Type 1} → statement M
-encode-spec =
-    tie.close
-    (tie.spec
-    refusal-requires
-    returns
-    quoted-size-requires
-    add-if2
-    quoted-size-requires-2
-    add-if2-2
-    returns-2
-    lay-download-requires
-    same-length
-    returns-3)
+encode-spec = tie.close (tie.spec (λ c κs. search needs) returns (λ c κs. search first-limited) (λ c. search needs) (λ c κs. omega (arith, second-limited _ _ _ _ _ (c .before .before .refusal .ensures) (c .before .if1 .left))) (λ c. search needs) returns-2 (λ c κs. search needs) (λ c. search needs) returns-3)

@@ -7,33 +7,9 @@ use Prim.Native.Nat.{ℕ}
 use Rattle.text.specs.Field.{fields}
 use Rattle.unsolicited.specs.Registration.{registrationFields, cgregText}
 
-slice-aggregate-starts-with : tie.Need-slice-aggregate-starts-with
-slice-aggregate-starts-with c = search needs
-
-starts-with-requires : tie.Need-starts-with-requires
-starts-with-requires c κs = search needs
-
-returns : tie.Need-returns
-unfolding cgregText
-returns c = search reader
-
-skip-requires : tie.Need-skip-requires
-skip-requires c κs = search needs
-
-registration-requires : tie.Need-registration-requires
-registration-requires c κs = search needs
-
-returns-2 : tie.Need-returns-2
-unfolding cgregText
-returns-2 c = search (reader, via (λ (t : List ℕ). registrationFields (2 ∷ 5 ∷ 8 ∷ []) (fields 44 t)))
-
 pub from-checked-spec : {M : Type 1} → statement M
+unfolding cgregText
 from-checked-spec =
     tie.close
-    (tie.spec
-    slice-aggregate-starts-with
-    starts-with-requires
-    returns
-    skip-requires
-    registration-requires
-    returns-2)
+    (tie.spec (λ c. search needs) (λ c κs. search needs) (λ c. search reader) (λ c κs. search needs) (λ c κs. search needs)
+    (λ c. search (reader, via (λ (t : List ℕ). registrationFields (2 ∷ 5 ∷ 8 ∷ []) (fields 44 t)))))

@@ -7,36 +7,15 @@ use Rattle.unsolicited.proofs.Trials.{first-is, first-else, first-last}
 use Rattle.unsolicited.proofs.Registrations.{plain-creg, plain-cgreg, plain-cereg}
 use mathlib.Core.Path.{_∙_}
 
-from-checked-requires : tie.Need-from-checked-requires
-from-checked-requires c κs = search needs
-
-enum-known-value : tie.Need-enum-known-value
-enum-known-value c = search needs
-
 returns : tie.Need-returns
 unfolding registrationText
 returns c = first-is _ _ _ (rw (c .before .value .given .1) at (c .before .before .before .from-checked .ensures))
-
-enum-told : tie.Need-enum-told
-enum-told c = search needs
-
-from-checked-requires-2 : tie.Need-from-checked-requires-2
-from-checked-requires-2 c κs = search needs
-
-enum-known-value-2 : tie.Need-enum-known-value-2
-enum-known-value-2 c = search needs
 
 returns-2 : tie.Need-returns-2
 unfolding registrationText
 returns-2 c = let m = c .before .before .before in
     first-else _ (plain-creg _) _ _ _ (rw (m .before .enum-told .given .1) at (m .before .before .before .from-checked .ensures))
     (first-is _ _ _ (rw (c .before .value2 .given .1) at (m .from-checked2 .ensures)))
-
-enum-told-2 : tie.Need-enum-told-2
-enum-told-2 c = search needs
-
-from-checked-requires-3 : tie.Need-from-checked-requires-3
-from-checked-requires-3 c κs = search needs
 
 returns-3 : tie.Need-returns-3
 unfolding registrationText
@@ -48,14 +27,5 @@ returns-3 c = let m = c .before .before .before in
 pub from-checked-spec : {M : Type 1} → statement M
 from-checked-spec =
     tie.close
-    (tie.spec
-    from-checked-requires
-    enum-known-value
-    returns
-    enum-told
-    from-checked-requires-2
-    enum-known-value-2
-    returns-2
-    enum-told-2
-    from-checked-requires-3
+    (tie.spec (λ c κs. search needs) (λ c. search needs) returns (λ c. search needs) (λ c κs. search needs) (λ c. search needs) returns-2 (λ c. search needs) (λ c κs. search needs)
     returns-3)

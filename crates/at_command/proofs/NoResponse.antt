@@ -1,0 +1,157 @@
+-- A line that begins as an unsolicited one does is no response: every reader of responses refuses it, with 3.
+use mathlib.Core.Path.{_≡_, refl, ap, sym, _∙_}
+use mathlib.Core.Bool.{Bool, true, false, _&&_, _||_}
+use mathlib.Core.List.{List, [], _∷_, _++_}
+use mathlib.Core.Option.{none}
+use Prim.Native.Nat.{ℕ, zero, suc, _-_}
+use native.Mathlib.Omega.{arith}
+use lib.Dec.{eqb}
+use lib.ListN.{length, take, getD}
+use borrow.Author.Tests.{eqb-true, ne-eqb, leb-true}
+use Rattle.text.specs.Bytes.{bytes, startsWith, same, allDigits}
+use Rattle.text.specs.Number.{digitValue, below, digitsOf, magnitude, unsigned}
+use Rattle.text.specs.Part.{among, trimEnd}
+use Rattle.text.specs.Reading.{Reading, read, refused, only, mapped}
+use Rattle.text.proofs.Begins.{begins-with, begins-same}
+use Rattle.text.proofs.Parts.{from-start}
+use Rattle.text.proofs.Tests.{never, not-some, and-left, and-right}
+use Rattle.text.proofs.Trims.{end-take}
+use Rattle.text.proofs.Yields.{Yields, yields-only, yields-sized, yields-either, yields-need, yields-first, yields-mapped}
+use Rattle.at_command.specs.Ccid.{cardText, iccidText}
+use Rattle.at_command.specs.Cmgf.{cmgfText}
+use Rattle.at_command.specs.Cmgr.{cmgrText}
+use Rattle.at_command.specs.Cntp.{cntpText}
+use Rattle.at_command.specs.Cops.{copsText}
+use Rattle.at_command.specs.Cpsi.{cpsiText}
+use Rattle.at_command.specs.Csq.{csqText}
+use Rattle.at_command.specs.Generic.{okText, errorText, promptText, closeText}
+use Rattle.at_command.specs.Gsn.{imeiText}
+use Rattle.at_command.specs.Httptofs.{httptofsText}
+use Rattle.at_command.specs.Response.{Response, readings, responseText}
+use Rattle.at_command.proofs.KindPlaces.{then}
+
+-- the line begins with "+U", or with "+C" and one of these letters
+unfoldable pub reserved : List ℕ → Bool
+reserved l = eqb (getD l 0 0) 43 && (eqb (getD l 1 0) 85 || (eqb (getD l 1 0) 67 && among (bytes "RGE") (getD l 2 0)))
+
+-- ---- numbers and digits
+
+take-first : (b n : ℕ) (p s : List ℕ) → startsWith (b ∷ p) (take n s) ≡ true → getD s 0 0 ≡ b
+unfolding startsWith
+take-first b zero p s e = never (cc)
+take-first b (suc n) p [] e = never (cc)
+take-first b (suc n) p (x ∷ s) e = eqb-true x b (and-left _ _ e)
+
+record Plus (l : List ℕ) : Type 0 where
+  plus : getD l 0 0 ≡ 43
+  letter : below 10 (digitValue (getD l 1 0)) ≡ none
+
+reserved-plus : (l : List ℕ) → reserved l ≡ true → Plus l
+unfolding reserved digitValue
+reserved-plus l e = record { plus = eqb-true _ 43 (and-left _ _ e); letter = by (eqb (getD l 1 0) 85) (eqb-true _ 85) (and-right (eqb (getD l 0 0) 43) _ e) }
+  where
+    by : (t : Bool) → (t ≡ true → getD l 1 0 ≡ 85) → t || (eqb (getD l 1 0) 67 && among (bytes "RGE") (getD l 2 0)) ≡ true → below 10 (digitValue (getD l 1 0)) ≡ none
+    by true f k = rw (f refl)
+    by false f k = rw (eqb-true (getD l 1 0) 67 (and-left _ _ k))
+
+magnitude-not : (max n : ℕ) (s : List ℕ) → below 10 (digitValue (getD s 0 0)) ≡ none → magnitude 10 max (take n s) ≡ none
+unfolding magnitude digitsOf
+magnitude-not max zero s h = refl
+magnitude-not max (suc n) [] h = refl
+magnitude-not max (suc n) (x ∷ s) h = rw h
+
+unsigned-not : (max n : ℕ) (s : List ℕ) → Plus s → unsigned 10 max (take n s) ≡ none
+unfolding unsigned startsWith magnitude digitsOf
+unsigned-not max zero s h = refl
+unsigned-not max (suc n) [] h = refl
+unsigned-not max (suc n) (x ∷ s) h = let p : x ≡ 43 = h .plus in rw p (magnitude-not max n s (h .letter))
+
+digits-front : (l : List ℕ) → allDigits l ≡ true → reserved l ≡ false
+unfolding reserved
+digits-front [] e = refl
+digits-front (x ∷ s) e = rw (ne-eqb x 43 (λ z. let k = leb-true 48 x (and-left _ _ (and-left _ _ e)) in omega arith))
+
+-- ---- the readers
+
+-- it refuses with 3
+abbrev pub Refuses : {A : Type 0} → Reading A → Type 0
+Refuses = Yields (λ a. ⊥) (λ k. k ≡ 3)
+
+pub refuses-3 : {A : Type 0} (x : Reading A) → Refuses x → x ≡ refused 3
+refuses-3 (read a) h = absurd h
+refuses-3 (refused k) h = ap refused h
+
+module _ (l : List ℕ) (h : reserved l ≡ true) where
+  other : reserved l ≡ false → ⊥
+  other e = never (cc)
+
+  begins-not : (p : List ℕ) → ((t : List ℕ) → reserved (p ++ t) ≡ false) → startsWith p l ≡ true → ⊥
+  begins-not p f e = other (begins-with (λ (s : List ℕ). reserved s ≡ false) p l f e)
+
+  is-not : (p : List ℕ) → ((t : List ℕ) → reserved (p ++ t) ≡ false) → same l p ≡ true → ⊥
+  is-not p f e = begins-not p f (begins-same p l e)
+
+  unless : {A : Type 0} (t : Bool) (q : Reading A) → (t ≡ true → ⊥) → Refuses (only t q)
+  unless t q f = yields-only _ _ t q refl (λ e. absurd (f e))
+
+  prefixed : {A : Type 0} (p : List ℕ) → ((t : List ℕ) → reserved (p ++ t) ≡ false) → (q : Reading A) → Refuses (only (startsWith p l) q)
+  prefixed p f q = unless (startsWith p l) q (begins-not p f)
+
+  ok-no : Refuses (okText l)
+  unfolding okText reserved
+  ok-no = yields-either _ _ _ _ _ (λ e. absurd (is-not (bytes "OK") (λ t. refl) e)) (λ e. unless _ _ (is-not (bytes "SHUT OK") (λ t. refl)))
+
+  error-no : Refuses (errorText l)
+  unfolding errorText reserved
+  error-no =
+      yields-either _ _ _ _ _ (λ e. absurd (begins-not (bytes "+CME ERROR: ") (λ t. refl) e))
+      (λ e. yields-either _ _ _ _ _ (λ e. absurd (begins-not (bytes "+CMS ERROR: ") (λ t. refl) e)) (λ e. unless _ _ (is-not (bytes "ERROR") (λ t. refl))))
+
+  prompt-no : Refuses (promptText l)
+  unfolding promptText reserved
+  prompt-no = unless _ _ (is-not (bytes "> ") (λ t. refl))
+
+  close-no : Refuses (closeText l)
+  unfolding closeText
+  close-no =
+      let z = from-start l (length l - 10) in
+      let k = unsigned-not 18446744073709551615 (length l - 10) l (reserved-plus l h) in
+      yields-only _ _ _ _ refl (λ e. yields-need _ _ _ _ refl (λ n e. not-some (sym k ∙ ap (unsigned 10 18446744073709551615) (sym z) ∙ e)))
+
+  iccid-no : Refuses (iccidText l)
+  unfolding iccidText cardText reserved
+  iccid-no =
+      yields-sized _ _ 19 20 _ _ refl (λ e. unless _ _ (λ e.
+      let k = take-first 56 (length (trimEnd (bytes "fF") l)) (57 ∷ []) l (ap (startsWith (bytes "89")) (end-take (bytes "fF") l) ∙ e) in
+      other (rw k)))
+
+  imei-no : Refuses (imeiText l)
+  unfolding imeiText
+  imei-no = yields-sized _ _ 15 16 l _ refl (λ e. unless _ _ (λ e. other (digits-front l e)))
+
+  named : {A : Type 0} (g : A → Response) (x : Reading A) → Refuses x → Refuses (mapped g x)
+  named g x = yields-mapped _ _ g x
+
+  pub no-response : responseText l ≡ refused 3
+  unfolding responseText readings csqText cpsiText copsText cntpText httptofsText cmgfText cmgrText reserved
+  no-response =
+      refuses-3 (responseText l)
+      (yields-first _ _ 3 (readings l) refl
+      (then (named _ _ ok-no)
+      (then (named _ _ error-no)
+      (then (named _ _ prompt-no)
+      (then (named _ _ close-no)
+      (then (named _ _ iccid-no)
+      (then (named _ _ (prefixed (bytes "+CSQ: ") (λ t. refl) _))
+      (then (named _ _ (prefixed (bytes "+CPSI: ") (λ t. refl) _))
+      (then (named _ _ (prefixed (bytes "+COPS: ") (λ t. refl) _))
+      (then (named _ _ (prefixed (bytes "+CNTP: ") (λ t. refl) _))
+      (then (named _ _ (prefixed (bytes "+HTTPTOFS: ") (λ t. refl) _))
+      (then (named _ _ imei-no)
+      (then (named _ _ (prefixed (bytes "+CMGF: ") (λ t. refl) _))
+      (then (named _ _ (prefixed (bytes "+CMGR: ") (λ t. refl) _))
+      tt))))))))))))))
+
+-- of a line that begins with p, where all such lines are so; for the four prefixes of unsolicited lines that is `λ t. refl`, under `unfolding reserved`
+pub no-response-after : (p l : List ℕ) → ((t : List ℕ) → reserved (p ++ t) ≡ true) → startsWith p l ≡ true → responseText l ≡ refused 3
+no-response-after p l f e = no-response l (begins-with (λ (s : List ℕ). reserved s ≡ true) p l f e)

@@ -1,0 +1,32 @@
+-- The exported calls that open and feed a desk, for demand 3 as the crate desk states it: each with its contract kept and none refused. A session may mix them
+-- with the calls of that crate: each finds the desk that the one before it left.
+use Prim.Native.Nat.{ℕ}
+use mathlib.Core.Path.{_≡_}
+use mathlib.Core.List.{List}
+use mathlib.Core.Option.{Option, some, Option·map}
+use lib.ListN.{length, take, getD}
+use Rattle.at_command.specs.Request.{Asked, answersTo}
+use Rattle.desk.specs.Judge.{Event, Seen, eventAt, Command, awaiting}
+use Rattle.desk.specs.Desk.{State}
+use Rattle.desk.specs.Demand.{Turn}
+use Rattle.desk.specs.Calls.{DeskOpens, DeskFeeds}
+use Rattle.sim7000.specs.Parts.{deskIn, ExportFeedKeeps}
+use Rattle.sim7000.specs.Command.{askedBy, ExportOpenKeeps}
+
+-- what the caller finds in `told` and in its text buffer: the event of the number, with its line
+abbrev pub seenIn : List ℕ → List ℕ → Option Seen
+seenIn told text = Option·map (λ (e : Event). record { event = e; line = take (getD told 2 0) text }) (eventAt (getD told 0 0) (getD told 3 0))
+
+abbrev pub turnIn : List ℕ → List ℕ → List ℕ → Turn
+turnIn chunk told text = record { chunk = chunk; taken = getD told 1 0; seen = seenIn told text }
+
+pub data ExportOpens : State → Command → State → Type 0 where
+  own : {s s′ : State} {c : Command} → DeskOpens s c s′ → ExportOpens s c s′
+  exported : (line state : List ℕ) (request number code : ℕ) (first second out : List ℕ) (size r : ℕ) (state′ out′ : List ℕ) (size′ : ℕ) (a : Asked) → length line ≡ 257
+      → askedBy request number code first second ≡ some a → ExportOpenKeeps state request number code first second out size r state′ out′ size′ → r ≡ 0
+      → ExportOpens (deskIn line state) (awaiting (answersTo a)) (deskIn line state′)
+
+pub data ExportFeeds : State → Turn → State → Type 0 where
+  own : {s s′ : State} {t : Turn} → DeskFeeds s t s′ → ExportFeeds s t s′
+  exported : (line state chunk text told : List ℕ) (r : ℕ) (line′ state′ text′ told′ : List ℕ) → ExportFeedKeeps line state chunk text told r line′ state′ text′ told′ → r ≡ 0
+      → ExportFeeds (deskIn line state) (turnIn chunk told′ text′) (deskIn line′ state′)

@@ -1,0 +1,28 @@
+-- A line that begins with a text is that text and what follows it. Assumes nothing.
+use mathlib.Core.Path.{_≡_, refl, ap, sym, _∙_, subst}
+use mathlib.Core.Bool.{Bool, true, false, _&&_}
+use mathlib.Core.List.{List, [], _∷_, _++_}
+use Prim.Native.Nat.{ℕ, suc, _≤_}
+use native.Mathlib.Omega.{arith}
+use lib.Dec.{eqb}
+use lib.ListN.{length, drop}
+use borrow.Author.Tests.{eqb-true, eq-eqb}
+use Rattle.text.specs.Bytes.{startsWith, same}
+use Rattle.text.proofs.Tests.{never, and-left, and-right}
+
+pub begins-split : (p s : List ℕ) → startsWith p s ≡ true → s ≡ p ++ drop (length p) s
+unfolding startsWith
+begins-split [] s e = refl
+begins-split (b ∷ p) [] e = never (cc)
+begins-split (b ∷ p) (x ∷ s) e =
+    let q = eqb-true x b (and-left _ _ e) in
+    let r = begins-split p s (and-right (eqb x b) _ e) in
+    rw q (ap (λ (l : List ℕ). b ∷ l) r)
+
+-- what holds of the text with anything behind it holds of the line
+pub begins-with : (P : List ℕ → Type 0) (p s : List ℕ) → ((t : List ℕ) → P (p ++ t)) → startsWith p s ≡ true → P s
+begins-with P p s f e = subst P (sym (begins-split p s e)) (f (drop (length p) s))
+
+pub begins-same : (p s : List ℕ) → same s p ≡ true → startsWith p s ≡ true
+unfolding same
+begins-same p s e = and-right (eqb (length s) (length p)) _ e

@@ -1,0 +1,32 @@
+-- Tests: cases on one, what a test of two that passes says of each, and one of several under the name that the code has. And what is never equal.
+use mathlib.Core.Path.{_≡_, refl, sym}
+use mathlib.Core.Logic.{_⊎_, inl, inr}
+use mathlib.Core.Bool.{Bool, true, false, _&&_, _||_, and-eq-true-iff}
+use mathlib.Core.Option.{Option, none, some}
+use Prim.Native.Nat.{ℕ}
+use native.Mathlib.Omega.{arith}
+
+-- two constructors are never equal: `never (cc)`
+pub never : {A : Type 0} → _≡_ {A = ℕ} 0 1 → A
+never e = absurd (omega arith)
+
+pub not-some : {A B : Type 0} {a : A} → _≡_ {A = Option A} none (some a) → B
+not-some e = never (cc)
+
+pub both : (t : Bool) → (t ≡ true) ⊎ (t ≡ false)
+both true = inl refl
+both false = inr refl
+
+module _ (a b : Bool) (h : a && b ≡ true) where
+  pub and-left : a ≡ true
+  and-left = and-eq-true-iff a b .0 h .0
+
+  pub and-right : b ≡ true
+  and-right = and-eq-true-iff a b .0 h .1
+
+module _ (x a b : Bool) (is : x ≡ a) where
+  pub or-first : x ≡ true → true ≡ (a || b)
+  or-first h = rw (sym is, h)
+
+  pub or-later : (r : Bool) → x ≡ false → r ≡ b → r ≡ (a || b)
+  or-later r h e = rw (sym is, h) e

@@ -1,0 +1,5 @@
+pub mod Refusals
+pub mod Apart
+pub mod Turns
+pub mod Fourteen
+pub mod One

@@ -1,0 +1,152 @@
+-- Both trials in turn, as one list, are the one trial that the line's front chooses.
+use Prim.Native.Nat.{ℕ, _≤_}
+use mathlib.Core.Path.{_≡_, refl, sym, ap, subst, _∙_}
+use mathlib.Core.Bool.{Bool, true, false, cond}
+use mathlib.Core.List.{List, [], _∷_, _++_}
+use native.Mathlib.Omega.{arith}
+use lib.Dec.{eqb}
+use Rattle.text.specs.Line.{lineCheck, checked}
+use Rattle.text.specs.Reading.{Reading, read, refused, mapped, firstOf, worse}
+use Rattle.text.proofs.LineLaws.{check-low}
+use Rattle.text.proofs.Yields.{yields-mapped}
+use Rattle.at_command.specs.Response.{Response, readings, responseText}
+use Rattle.unsolicited.specs.Gnss.{Report, ugnsinfText}
+use Rattle.unsolicited.specs.Registration.{Registration, cregText, cgregText, ceregText, registrationText}
+use Rattle.unsolicited.specs.Urc.{Unsolicited, gnss, registration, urcText, begins}
+use Rattle.unsolicited.proofs.Trials.{Plain}
+use Rattle.unsolicited.proofs.Reports.{plain-ugnsinf}
+use Rattle.unsolicited.proofs.Prefixes.{plain-urc}
+use Rattle.at_command.specs.says.Response.{ResponseCodeKeeps}
+use Rattle.at_command.specs.says.Response.{says as responseSays}
+use Rattle.at_command.specs.declared.ResponseCode.{ResponseCode}
+use Rattle.at_command.specs.declared.ResponseCodeAnswer.{ResponseCodeAnswer}
+use Rattle.at_command.specs.declared.ResponseCodeAnswer.the-variants as R
+use Rattle.unsolicited.specs.says.Urc.{UrcKeeps}
+use Rattle.unsolicited.specs.says.Urc.{says as urcAnswerSays}
+use Rattle.unsolicited.specs.declared.Urc.{Urc}
+use Rattle.unsolicited.specs.declared.UrcAnswer.{UrcAnswer}
+use Rattle.unsolicited.specs.declared.UrcAnswer.the-variants as U
+use Rattle.trial.specs.says.Line.{LineKeeps}
+use Rattle.trial.specs.declared.Line.the-variants as L
+use Rattle.trial.specs.Said.{Said, response, unsolicited, each, urcReadings, allReadings, saidText, lineSaid}
+use Rattle.trial.proofs.Apart.{responses-not, urcs-not}
+use Rattle.trial.proofs.Refusals.{Known, three, four, Refuses, responses-refuse}
+
+-- what is read, or what the readers after it say
+abbrev orElse : {A : Type 0} → Reading A → List (Reading A) → Reading A
+orElse (read a) rs = read a
+orElse (refused k) rs = firstOf k rs
+
+module _ {A : Type 0} where
+  first-join : (j : ℕ) (rs qs : List (Reading A)) → firstOf j (rs ++ qs) ≡ orElse (firstOf j rs) qs
+  unfolding firstOf
+  first-join j [] qs = refl
+  first-join j (read a ∷ rs) qs = refl
+  first-join j (refused k ∷ rs) qs = first-join (worse j k) rs qs
+
+  first-one : (r : Reading A) → firstOf 3 (r ∷ []) ≡ r
+  unfolding firstOf
+  first-one (read a) = refl
+  first-one (refused k) = refl
+
+first-each : {A B : Type 0} (f : A → B) (j : ℕ) (rs : List (Reading A)) → firstOf j (each f rs) ≡ mapped f (firstOf j rs)
+unfolding firstOf mapped
+first-each f j [] = refl
+first-each f j (read a ∷ rs) = refl
+first-each f j (refused k ∷ rs) = first-each f (worse j k) rs
+
+-- the trial is the responses' and then the unsolicited's
+in-turn : (l : List ℕ) → saidText l ≡ orElse (mapped response (responseText l)) (each unsolicited (urcReadings l))
+unfolding saidText allReadings responseText
+in-turn l = first-join 3 (each response (readings l)) _ ∙ ap (λ (r : Reading Said). orElse r (each unsolicited (urcReadings l))) (first-each response 3 (readings l))
+
+-- and the unsolicited's, of which the first refuses with 3, is their own trial
+urc-trial : (l : List ℕ) → firstOf 3 (urcReadings l) ≡ urcText l
+unfolding urcReadings urcText registrationText firstOf mapped
+urc-trial l = go (ugnsinfText l) (plain-ugnsinf l) (cregText l ∷ cgregText l ∷ ceregText l ∷ [])
+  where
+    go : (g : Reading Report) → Plain g → (rs : List (Reading Registration)) → firstOf 3 (mapped gnss g ∷ each registration rs) ≡ firstOf 3 (mapped gnss g ∷ mapped registration (firstOf 3 rs) ∷ [])
+    go (read r) p rs = refl
+    go (refused k) p rs = rw p (first-each registration 3 rs ∙ sym (first-one (mapped registration (firstOf 3 rs))))
+
+abbrev Low : Reading Said → Type 0
+Low (read s) = Unit {0}
+Low (refused k) = k ≤ 4
+
+low : (r : Reading Said) → Refuses r → Low r
+low (read s) h = tt
+low (refused k) three = omega arith
+low (refused k) four = omega arith
+
+plain-known : {A : Type 0} (r : Reading A) → Plain r → Refuses r
+plain-known (read a) p = tt
+plain-known (refused k) p = subst Known (sym p) three
+
+module _ (l : List ℕ) where
+  text-begun : begins l ≡ true → saidText l ≡ mapped unsolicited (urcText l)
+  unfolding mapped
+  text-begun e =
+      in-turn l
+      ∙ ap (λ (r : Reading Response). orElse (mapped response r) (each unsolicited (urcReadings l))) (responses-not l e)
+      ∙ first-each unsolicited 3 (urcReadings l)
+      ∙ ap (mapped unsolicited) (urc-trial l)
+
+  text-other : begins l ≡ false → saidText l ≡ mapped response (responseText l)
+  unfolding mapped firstOf
+  text-other e = in-turn l ∙ ap (λ (us : List (Reading Unsolicited)). orElse (mapped response (responseText l)) (each unsolicited us)) (urcs-not l e) ∙ go (responseText l) (responses-refuse l)
+    where
+      go : (r : Reading Response) → Refuses r → orElse (mapped response r) (each unsolicited (refused 3 ∷ refused 3 ∷ refused 3 ∷ refused 3 ∷ [])) ≡ mapped response r
+      go (read r) h = refl
+      go (refused k) three = refl
+      go (refused k) four = refl
+
+  -- so what the trial refuses, it refuses with 3 or 4
+  text-refuses : Refuses (saidText l)
+  text-refuses = go (begins l) refl
+    where
+      go : (t : Bool) → begins l ≡ t → Refuses (saidText l)
+      go true e = subst Refuses (sym (text-begun e)) (yields-mapped (λ (u : Said). Unit {0}) Known unsolicited (urcText l) (plain-known (urcText l) (plain-urc l)))
+      go false e = subst Refuses (sym (text-other e)) (yields-mapped (λ (u : Said). Unit {0}) Known response (responseText l) (responses-refuse l))
+
+  -- and a line, with 1 to 4
+  pub refusal-low : {k : ℕ} → refused k ≡ lineSaid l → k ≤ 4
+  unfolding lineSaid checked
+  refusal-low {k} e = subst Low (sym e) (go (eqb (lineCheck l) 0))
+    where
+      go : (t : Bool) → Low (cond t (saidText l) (refused (lineCheck l)))
+      go true = low (saidText l) text-refuses
+      go false = let h = check-low l in omega arith
+
+  -- behind the one check of the line
+  behind : {A : Type 0} (f : A → Said) (reader : List ℕ → Reading A) → saidText l ≡ mapped f (reader l) → lineSaid l ≡ mapped f (checked reader l)
+  unfolding lineSaid checked mapped
+  behind f reader e = go (eqb (lineCheck l) 0)
+    where
+      go : (t : Bool) → cond t (saidText l) (refused (lineCheck l)) ≡ mapped f (cond t (reader l) (refused (lineCheck l)))
+      go true = e
+      go false = refl
+
+  -- as the code has the test under the name t, and the answer of the trial that it asks
+  module _ (t : Bool) (is : t ≡ begins l) where
+    pub said-begun : t ≡ true → {r : Reading Unsolicited} → r ≡ checked urcText l → mapped unsolicited r ≡ lineSaid l
+    said-begun h e = ap (mapped unsolicited) e ∙ sym (behind unsolicited urcText (text-begun (sym is ∙ h)))
+
+    pub said-other : t ≡ false → {r : Reading Response} → r ≡ checked responseText l → mapped response r ≡ lineSaid l
+    said-other h e = ap (mapped response) e ∙ sym (behind response responseText (text-other (sym is ∙ h)))
+
+    -- and by the cases of that answer
+    pub line-urc : t ≡ true → (r : UrcAnswer) → UrcKeeps l r → (u : Urc) → r ≡ U.Value u → LineKeeps l (L.Unsolicited u)
+    unfolding mapped
+    line-urc h r k u e = said-begun h (ap urcAnswerSays (sym e) ∙ k)
+
+    pub line-not-urc : t ≡ true → (r : UrcAnswer) → UrcKeeps l r → (n : ℕ) → r ≡ U.Refused n → LineKeeps l (L.Refused n)
+    unfolding mapped
+    line-not-urc h r k n e = said-begun h (ap urcAnswerSays (sym e) ∙ k)
+
+    pub line-response : t ≡ false → (r : ResponseCodeAnswer) → ResponseCodeKeeps l r → (c : ResponseCode) → r ≡ R.Value c → LineKeeps l (L.Response c)
+    unfolding mapped
+    line-response h r k c e = said-other h (ap responseSays (sym e) ∙ k)
+
+    pub line-not-response : t ≡ false → (r : ResponseCodeAnswer) → ResponseCodeKeeps l r → (n : ℕ) → r ≡ R.Refused n → LineKeeps l (L.Refused n)
+    unfolding mapped
+    line-not-response h r k n e = said-other h (ap responseSays (sym e) ∙ k)

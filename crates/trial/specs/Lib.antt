@@ -1,0 +1,4 @@
+pub mod Said
+pub mod Sort
+pub mod Fourteen
+pub mod says
