@@ -88,7 +88,7 @@ uint8_t sim7000_write_command(uint8_t request, uint16_t number, uint8_t code, co
 /* ---- the desk */
 
 /* All zeros is a new desk, and no content is ill-formed. state[0] counts the bytes of the line that is coming (above 257 it is being
- * dropped); state[1] is 0 while no command is open. */
+ * dropped); state[1] is 0, or above 182, while no command is open. */
 typedef struct sim7000_desk {
     uint8_t line[257];
     uint64_t state[2];

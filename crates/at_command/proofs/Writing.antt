@@ -11,14 +11,14 @@ use borrow.Author.Tests.{lt-ltb, le-ltb, ltb-false, not-true, not-false}
 use Rattle.text.specs.Bytes.{allWithin}
 use Rattle.text.specs.Reading.{Reading, read, refused, mapped}
 use Rattle.at_command.specs.WriterSteps.{Lays, refusalOf}
-use Rattle.at_command.specs.Request.{Asked, commandOf, Text, upTo, textsOf, anyLong, anyUnfit, fitting, Leaves, Writes}
+use Rattle.at_command.specs.Request.{Asked, commandOf, Text, upTo, textsOf, anyLong, anyUnfit, fitting, LeavesWritten, Writes}
 
 -- a command that does not fit, and one that was laid
-pub no-room : (c b : List ℕ) (n : ℕ) → n ≡ length c → length b < n → Leaves (fitting c (length b)) b (refused 7) b
+pub no-room : (c b : List ℕ) (n : ℕ) → n ≡ length c → length b < n → LeavesWritten (fitting c (length b)) b (refused 7) b
 unfolding mapped
 no-room c b n e h = rw (lt-ltb (length b) (length c) (omega arith)) (record { says = refl; holds = refl })
 
-pub laid : (c b x : List ℕ) (e : ℕ) → Lays c 0 b e x → Leaves (fitting c (length b)) b (read e) x
+pub laid : (c b x : List ℕ) (e : ℕ) → Lays c 0 b e x → LeavesWritten (fitting c (length b)) b (read e) x
 unfolding mapped
 laid c b x e l =
     let r = l .room in
@@ -105,17 +105,17 @@ module _ (a : Asked) (b : List ℕ) (k : ℕ) (is : k ≡ refusalOf (textsOf a))
   unfolding refusalOf mapped
   refuses h = go (anyLong (textsOf a)) (anyUnfit (textsOf a)) is
     where
-      go : (l u : Bool) → k ≡ cond l 5 (cond u 6 0) → Leaves (cond l (refused 5) (cond u (refused 6) (fitting (commandOf a) (length b)))) b (refused k) b
+      go : (l u : Bool) → k ≡ cond l 5 (cond u 6 0) → LeavesWritten (cond l (refused 5) (cond u (refused 6) (fitting (commandOf a) (length b)))) b (refused k) b
       go true u e = rw e (record { says = refl; holds = refl })
       go false true e = rw e (record { says = refl; holds = refl })
       go false false e = absurd (omega arith)
 
-  good : k ≤ 0 → (w : Reading ℕ) (x : List ℕ) → Leaves (fitting (commandOf a) (length b)) b w x → Writes a b w x
+  good : k ≤ 0 → (w : Reading ℕ) (x : List ℕ) → LeavesWritten (fitting (commandOf a) (length b)) b w x → Writes a b w x
   unfolding refusalOf
   good h w x = go (anyLong (textsOf a)) (anyUnfit (textsOf a)) is
     where
-      go : (l u : Bool) → k ≡ cond l 5 (cond u 6 0) → Leaves (fitting (commandOf a) (length b)) b w x
-          → Leaves (cond l (refused 5) (cond u (refused 6) (fitting (commandOf a) (length b)))) b w x
+      go : (l u : Bool) → k ≡ cond l 5 (cond u 6 0) → LeavesWritten (fitting (commandOf a) (length b)) b w x
+          → LeavesWritten (cond l (refused 5) (cond u (refused 6) (fitting (commandOf a) (length b)))) b w x
       go true u e p = absurd (omega arith)
       go false true e p = absurd (omega arith)
       go false false e p = p

@@ -96,12 +96,12 @@ written (read command) out = command ++ drop (length command) out
 written (refused k) out = out
 
 -- what a call that writes answers, the command's size or the refusal, and what it leaves in the buffer
-pub record Leaves (w : Reading (List ℕ)) (before : List ℕ) (answer : Reading ℕ) (after : List ℕ) : Type 0 where
+pub record LeavesWritten (w : Reading (List ℕ)) (before : List ℕ) (answer : Reading ℕ) (after : List ℕ) : Type 0 where
   pub says : answer ≡ mapped length w
   pub holds : after ≡ written w before
 
 abbrev pub Writes : Asked → List ℕ → Reading ℕ → List ℕ → Type 0
-Writes a before = Leaves (encodeReading a (length before)) before
+Writes a before = LeavesWritten (encodeReading a (length before)) before
 
 -- the answers that it awaits: the `Response` of the Rust, in order
 abbrev pub answersTo : Asked → List Kind

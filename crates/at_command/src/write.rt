@@ -8,7 +8,7 @@ ghost use Prim.Native.Nat.{_+_, _%_, _≤_, _<_};
 ghost use lib.ListN.{length};
 ghost use Rattle.at_command.specs.WriterSteps.{Lays, lastDigits, HasDigits, refusalOf};
 ghost use Rattle.at_command.specs.Piece.{marked, escaped, quoted, decimal};
-ghost use Rattle.at_command.specs.Request.{upTo, fitting, Leaves};
+ghost use Rattle.at_command.specs.Request.{upTo, fitting, LeavesWritten};
 ghost use Rattle.at_command.specs.says.Request.{encodedSays};
 
 // The refusal of two texts of a request, each with the most bytes that it may have: 5, then 6; 0 where both are good.
@@ -152,7 +152,7 @@ pub(crate) fn lay_decimal(n: u16, at: usize, out: &mut [u8]) -> usize
 
 // Writes a command that is there whole.
 pub(crate) fn plain(command: &[u8], out: &mut [u8]) -> Encoded
-    ensures { λ r. ⌜ Leaves (fitting (now (command .entry)) (length (now (out .entry)))) (now (out .entry)) (encodedSays r) (now (out .exit)) ⌝ }
+    ensures { λ r. ⌜ LeavesWritten (fitting (now (command .entry)) (length (now (out .entry)))) (now (out .entry)) (encodedSays r) (now (out .exit)) ⌝ }
 {
     if out.len() < command.len() {
         return Encoded::Refused(7);

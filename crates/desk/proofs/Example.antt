@@ -23,7 +23,7 @@ use Rattle.at_command.specs.declared.request.Request.the-variants.{GetSignalQua
 use Rattle.unsolicited.specs.Gnss.{ugnsinfText}
 use Rattle.unsolicited.specs.Registration.{cregText, cgregText, ceregStatus, ceregFields, ceregText}
 use Rattle.desk.specs.Cut.{bare, cutOne}
-use Rattle.trial.specs.Said.{urcReadings, allReadings, saidText, lineSaid}
+use Rattle.trial.specs.Answer.{urcReadings, allReadings, saidText, lineSaid}
 use Rattle.trial.specs.Sort.{lineSort}
 use Rattle.desk.specs.Machine.{tells, judgeAll}
 use Rattle.desk.specs.Lines.{cutter}

@@ -1,26 +1,20 @@
 -- Laws of the table and of the judge. Nothing is known of the readers.
 use Prim.Native.Nat.{_≤_}
-use mathlib.Core.Path.{_≡_, refl, sym, ap, _∙_}
+use mathlib.Core.Path.{_≡_, refl, ap}
 use mathlib.Core.Bool.{Bool, true, false, cond, _&&_}
 use mathlib.Core.Logic.{⊎-elim}
 use mathlib.Core.List.{List, [], _∷_}
 use mathlib.Core.Option.{Option, none, some, Option·map}
 use native.Mathlib.Omega.{arith}
 use lib.ListN.{length, drop}
-use borrow.Author.Tests.{eqb-true}
 use Rattle.text.specs.Reading.{Reading, read, refused}
-use Rattle.at_command.specs.Kind.{Kind, genericOk, simError, placeOf, kindAt}
-use Rattle.at_command.proofs.KindPlaces.{at-place}
+use Rattle.at_command.specs.Kind.{Kind, genericOk, simError}
 use Rattle.trial.specs.Sort.{Sort, response, unsolicited, lineSort}
 use Rattle.desk.specs.Machine.{commandOf}
 use Rattle.desk.specs.Lines.{Line, overlong, line}
 use Rattle.desk.specs.Judge as J
 use Rattle.desk.specs.Judge.{Overlong, Command, awaiting, isOpen, sameKind, anyAwaited, isRefused, isResponse, isNext, isUnsolicited, stays, closes, takesNext, table, judge}
 use Rattle.text.proofs.Tests.{both, never}
-
--- the test of two kinds passes only where they are the same
-pub same-kind : (j k : Kind) → sameKind j k ≡ true → j ≡ k
-same-kind j k e = sym (at-place j) ∙ ap kindAt (eqb-true (placeOf j) (placeOf k) e) ∙ at-place k
 
 -- an unsolicited line is the command's in no case
 pub table-unsolicited : (c : Command) → table c (read unsolicited) ≡ stays c J.Unsolicited

@@ -5,13 +5,14 @@ use mathlib.Core.Bool.{Bool, true, false, cond}
 use mathlib.Core.List.{List, [], _∷_, _++_}
 use native.Mathlib.Omega.{arith}
 use lib.Dec.{ltb}
-use lib.ListN.{length, take, drop, length-drop, take-append-drop}
-use borrow.Author.Tests.{le-ltb}
+use lib.ListN.{length, take, drop, replicate, length-drop, take-append-drop}
+use borrow.Author.Tests.{le-ltb, leb-true}
 use Rattle.text.specs.Reading.{Reading, read, refused}
 use Rattle.at_command.specs.Kind.{Kind, genericOk, simError, writePrompt, closeOk, iccid, signalQuality, systemInfo, operatorInfo, networkTime, downloadInfo, imei, smsMessageFormat, smsMessage}
-use Rattle.at_command.specs.Request.{encodeReading}
+use Rattle.at_command.specs.Request.{getSignalQuality, commandOf, encodeReading}
 use Rattle.at_command.specs.says.Request.{asked, awaitedBy, kindSays, encodedSays}
 use Rattle.at_command.specs.declared.request.Request.{Request}
+use Rattle.at_command.specs.declared.request.Request.the-variants.{GetSignalQuality}
 use Rattle.at_command.proofs.OneRequest.{encoded, kind, any-texts}
 use Rattle.trial.specs.Sort.{lineSort}
 use Rattle.desk.specs.Machine.{Stop, feed}
@@ -172,3 +173,8 @@ desk-lives d request first second out text command closed clear e room =
     (By.value d request first second out (record { desk = deskIn (o .state); answer = encoded (o .answer) }) (o .out) (rw (state-says (o .state) few, encoded-says (o .answer)))
     (ap accepts (encoded-says (o .answer) ∙ made .0)))
     (record { desk = deskIn (o .state); is = refl })
+
+-- for one, AT+CSQ with buffers of 256 bytes, from any such desk
+pub csq-lives : (d : Desk) → isOpen (stateOf d .command) ≡ false → isClear (viewOf (stateOf d .wire)) ≡ true
+    → Lives DeskOpens DeskFeeds (stateOf d) (awaiting (awaitedBy GetSignalQuality))
+csq-lives d closed clear = desk-lives d GetSignalQuality [] [] (replicate 256 0) (replicate 256 0) (commandOf getSignalQuality) closed clear refl (leb-true 256 256 refl)

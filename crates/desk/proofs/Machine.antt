@@ -5,7 +5,7 @@ use mathlib.Core.List.{List, [], _∷_, _++_}
 use mathlib.Core.Option.{Option, none, some, Option·map}
 use native.Mathlib.Omega.{arith}
 use lib.ListN.{length, take, drop, take-append-drop}
-use Rattle.desk.specs.Machine.{Machine, Stop, shown, onward, tells, after, feed, told, taken, left, Ruled, Judging, commandOf, eventOf, judged, judgeAll, commandAfter}
+use Rattle.desk.specs.Machine.{Machine, Stop, shown, onward, tells, after, feed, told, taken, Ruled, Judging, commandOf, eventOf, judged, judgeAll, commandAfter}
 
 shown-join : {T : Type 0} (o : Option T) (l k : List T) → shown o l ++ k ≡ shown o (l ++ k)
 shown-join none l k = refl
@@ -92,13 +92,6 @@ module _ {S T : Type 0} (m : Machine S T) where
   told-tells s (c ∷ cs) =
       let f = feed m s c in
       ap (shown (f .tell)) (told-tells (f .state) cs) ∙ sym (feed-join s c (taken m (f .state) cs))
-
-  pub left-after : (s : S) (chunks : List (List ℕ)) → left m s chunks ≡ after m s (taken m s chunks)
-  unfolding left taken after
-  left-after s [] = refl
-  left-after s (c ∷ cs) =
-      let f = feed m s c in
-      left-after (f .state) cs ∙ sym (after-join s (take (f .taken) c) (taken m (f .state) cs) ∙ rw (feed-after s c))
 
 -- ---- a machine seen through a view of its state: the one with the buffer, by what the buffer holds
 

@@ -62,7 +62,7 @@ seenOf (t ∷ ts) = shown (t .seen) (seenOf ts)
 
 -- ---- lines slipped in
 
--- a complete unsolicited line, where nothing is held: straight after the open and after an LF, as document 01 says, and after a prompt
+-- a complete unsolicited line, where nothing is held: straight after the open and after an LF, as the demand says, and after a prompt
 pub data May (s : Plain) (w : List ℕ) : Type 0 where
   unasked : (l : List ℕ) → s .wire ≡ held [] → Whole w → linesOf w ≡ line l ∷ [] → lineSort l ≡ read unsolicited → May s w
 

@@ -1,4 +1,5 @@
--- The desk with its buffer, and its calls: what each answers, and what it leaves of the desk and of each lent buffer.
+-- The desk with its buffer, and its calls: what each answers, and what it leaves of the desk and of each lent buffer (document 01, "The desk (added)" and
+-- "Refusal numbers", 8 to 10).
 use Prim.Native.Nat.{ℕ, _+_}
 use mathlib.Core.Bool.{Bool, true, false, cond, _||_}
 use mathlib.Core.List.{List, [], _∷_, _++_}

@@ -27,7 +27,7 @@ pub record Seen : Type 0 where
   pub event : Event
   pub line : List ℕ
 
--- the number of an event, and of a stray
+-- the number of an event, as records have it (document 02, CR 11), and of a stray
 abbrev pub eventNumber : Event → ℕ
 eventNumber Unsolicited = 1
 eventNumber Taken = 2

@@ -1,4 +1,5 @@
--- A machine takes bytes one at a time, and at some of them it tells something. A feed of a chunk stops at the first byte that tells.
+-- A machine takes bytes one at a time, and at some of them it tells something. A feed of a chunk stops at the first byte that tells. So "the search stops at
+-- the first byte that yields an event" (document 01, "The desk (added)"), for any machine.
 use Prim.Native.Nat.{ℕ, suc}
 use mathlib.Core.List.{List, [], _∷_, _++_}
 use mathlib.Core.Option.{Option, none, some, Option·map}
@@ -41,7 +42,7 @@ module _ {S T : Type 0} (m : Machine S T) where
   feed s [] = record { taken = 0; tell = none; state = s }
   feed s (b ∷ bs) = onward (m s b .tell) (m s b .state) (feed (m s b .state) bs)
 
-  -- feeds one after the other: what they told, the bytes that they took, and the state that they left
+  -- feeds one after the other: what they told, and the bytes that they took
   unfoldable pub told : S → List (List ℕ) → List T
   told s [] = []
   told s (c ∷ cs) = shown (feed s c .tell) (told (feed s c .state) cs)
@@ -49,10 +50,6 @@ module _ {S T : Type 0} (m : Machine S T) where
   unfoldable pub taken : S → List (List ℕ) → List ℕ
   taken s [] = []
   taken s (c ∷ cs) = take (feed s c .taken) c ++ taken (feed s c .state) cs
-
-  unfoldable pub left : S → List (List ℕ) → S
-  left s [] = s
-  left s (c ∷ cs) = left (feed s c .state) cs
 
 -- ---- a machine whose tells are judged, each by a rule that has a state of its own
 

@@ -166,7 +166,7 @@ demand3 = same-bytes ExportOpens ExportFeeds export-sound
 pub demand3-slipped : Demand3-slipped ExportOpens ExportFeeds
 demand3-slipped = with-slips ExportOpens ExportFeeds export-sound
 
--- ---- there are such sessions, of exported calls alone
+-- ---- there are such sessions: this one is made of exported calls
 
 -- the desk of some lent parts
 record Parts (s : State) : Type 0 where

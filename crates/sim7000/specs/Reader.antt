@@ -6,7 +6,7 @@ use Rattle.text.specs.Reading.{Reading, read, refused}
 use Rattle.at_command.specs.Kind.{placeOf}
 use Rattle.at_command.specs.Response.{kindOf}
 use Rattle.unsolicited.specs.Urc.{Unsolicited, gnss, registration}
-use Rattle.trial.specs.Said.{Said, response, unsolicited, lineSaid}
+use Rattle.trial.specs.Answer.{Said, response, unsolicited, lineSaid}
 
 -- the responses 1 to 13 in their order of trial, GnssReport 14, a registration 15
 abbrev pub urcReader : Unsolicited → ℕ

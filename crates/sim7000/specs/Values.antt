@@ -15,7 +15,7 @@ use Rattle.at_command.specs.Response.{Response, ok, error, prompt, closeOk, icc
 use Rattle.unsolicited.specs.Date.{Date}
 use Rattle.unsolicited.specs.Gnss.{Fix, Report, notEnabled, noFix, fix}
 use Rattle.unsolicited.specs.Urc.{Unsolicited, gnss, registration}
-use Rattle.trial.specs.Said.{Said, response, unsolicited, lineSaid}
+use Rattle.trial.specs.Answer.{Said, response, unsolicited, lineSaid}
 use Rattle.sim7000.specs.Reader.{readerOf}
 
 -- ---- what may be missing

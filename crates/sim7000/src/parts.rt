@@ -31,7 +31,7 @@ pub extern "C" fn sim7000_open(
 {
     let wanted = request::request_in(request, number, code);
     match wanted {
-        Wanted::Unknown => 3,
+        Wanted::Not => 3,
         Wanted::Is(q) => {
             let held = state[0];
             let command = numbers::command_in(state[1]);

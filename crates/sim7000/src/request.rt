@@ -12,7 +12,7 @@ ghost use Rattle.sim7000.specs.says.Wanted.{wantedSays};
 // The request that a number stands for.
 pub enum Wanted {
     Is(Request),
-    Unknown,
+    Not,
 }
 
 fn set_format(code: u8) -> Wanted
@@ -24,7 +24,7 @@ fn set_format(code: u8) -> Wanted
     if code == 1 {
         return Wanted::Is(Request::SetSmsMessageFormat(SmsMessageFormat::Text));
     }
-    Wanted::Unknown
+    Wanted::Not
 }
 
 pub(crate) fn request_in(request: u8, number: u16, code: u8) -> Wanted
@@ -47,7 +47,7 @@ pub(crate) fn request_in(request: u8, number: u16, code: u8) -> Wanted
         10 => Wanted::Is(Request::GetSmsMessageFormat),
         11 => set_format(code),
         12 => Wanted::Is(Request::ReadSms { index: code }),
-        _ => Wanted::Unknown,
+        _ => Wanted::Not,
     }
 }
 
@@ -66,7 +66,7 @@ pub extern "C" fn sim7000_write_command(
 {
     let wanted = request_in(request, number, code);
     match wanted {
-        Wanted::Unknown => 3,
+        Wanted::Not => 3,
         Wanted::Is(q) => {
             let encoded = q.encode(first, second, out);
             match encoded {

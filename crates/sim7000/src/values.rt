@@ -35,7 +35,7 @@ ghost use Rattle.unsolicited.specs.Urc.{gnss, registration};
 ghost use Rattle.unsolicited.specs.says.Gnss.{reportSays, fixSays};
 ghost use Rattle.unsolicited.specs.says.Registration.{registrationSays};
 ghost use Rattle.unsolicited.specs.says.Urc.{urcSays};
-ghost use Rattle.trial.specs.Said.{response, unsolicited};
+ghost use Rattle.trial.specs.Answer.{response, unsolicited};
 ghost use Rattle.sim7000.specs.Values.{padded, lineValues, nameIn, nameSpan};
 
 // The bits of a float, as one of the 20 numbers.

@@ -1,17 +1,17 @@
 -- The fields of a line, taken one after the other. Assumes nothing.
 use mathlib.Core.Path.{_≡_, refl, ap, sym, _∙_}
 use mathlib.Core.Bool.{Bool, true, false, cond}
-use mathlib.Core.List.{List, [], _∷_, _++_}
+use mathlib.Core.List.{List, [], _∷_}
 use Prim.Native.Nat.{ℕ, zero, suc, _+_, _-_, _≤_, _<_}
 use native.Mathlib.Numerals.{add-one}
 use native.Mathlib.Nat.{sub-zero, zero-add, add-zero}
 use native.Mathlib.Omega.{arith}
-use lib.ListN.{length, take, drop, length-drop}
+use lib.ListN.{length, drop, length-drop}
 use lib.Seq.{drop-drop, length-take-le, take-all, take-nil}
 use lib.Dec.{eqb, ltb}
-use borrow.Author.Tests.{eqb-true, ltb-true, ltb-false, lt-ltb, le-ltb}
+use borrow.Author.Tests.{ltb-true, ltb-false}
 use denote.Ref.{RefT, now}
-use Rattle.text.specs.Bytes.{indexOf, countOf, has}
+use Rattle.text.specs.Bytes.{indexOf, countOf}
 use Rattle.text.specs.Part.{IsPart, partOf, before, after}
 use Rattle.text.specs.Field.{fronted, fields, nth, placeOf}
 use Rattle.text.proofs.AtIndex.{at-end}

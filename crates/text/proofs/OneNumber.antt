@@ -1,6 +1,6 @@
 -- No second answer of an integer reader meets its contract.
 use mathlib.Core.Path.{_≡_, refl}
-use mathlib.Core.Option.{Option, none, some}
+use mathlib.Core.Option.{Option}
 use Prim.Native.Nat.{ℕ}
 use lib.IntN.{ℤ}
 use Rattle.text.specs.says.Number.{saysU8, saysU16, saysU32, saysU64, saysI32, U8Keeps, U16Keeps, U32Keeps, U64Keeps, I32Keeps}

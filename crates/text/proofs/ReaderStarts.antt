@@ -1,13 +1,13 @@
 -- The places of a reader and of those behind it, found in one pass over the bytes. Assumes nothing.
 use mathlib.Core.Path.{_≡_, refl, ap, sym, _∙_}
-use mathlib.Core.Bool.{Bool, true, false, cond}
+use mathlib.Core.Bool.{Bool, true, false}
 use mathlib.Core.List.{List, [], _∷_}
 use Prim.Native.Nat.{ℕ, zero, suc, _+_, _-_, _≤_, _<_}
 use native.Mathlib.Nat.{add-zero}
 use native.Mathlib.Numerals.{add-one, lt-of-le-of-ne}
 use native.Mathlib.Omega.{arith}
 use lib.Dec.{eqb, ltb}
-use lib.ListN.{length, drop, getD, set, replicate, length-set, length-replicate, getD-replicate}
+use lib.ListN.{length, drop, getD, set, replicate, length-set, getD-replicate}
 use lib.Seq.{length-take-le, getD-set-same, getD-set-other}
 use mir.Syntax.{w64}
 use mir.Val.{Fits, boolByte}

@@ -1,7 +1,7 @@
 -- A part that ends inside a character ends with a byte that is no digit, so it is no number.
-use mathlib.Core.Path.{_≡_, refl, ap, sym, _∙_}
+use mathlib.Core.Path.{_≡_, refl}
 use mathlib.Core.Bool.{Bool, true, false, cond, _&&_, _||_}
-use mathlib.Core.List.{List, [], _∷_, _++_, List·Memᴰ}
+use mathlib.Core.List.{List, [], _∷_, _++_}
 use mathlib.Core.Option.{Option, none, some}
 use Prim.Native.Nat.{ℕ, zero, suc, _+_, _-_, _≤_, _<_}
 use native.Mathlib.Omega.{arith}
@@ -9,10 +9,10 @@ use lib.Dec.{eqb, leb}
 use lib.ListN.{length, take, drop, getD, length-append, length-drop, List·getD-append}
 use lib.Seq.{getD-take, getD-drop, getD-append-add, length-take-le}
 use borrow.Author.Tests.{leb-true, eqb-true}
-use Rattle.text.specs.Bytes.{bytes, within, startsWith}
+use Rattle.text.specs.Bytes.{within, startsWith}
 use Rattle.text.specs.Part.{partOf}
 use Rattle.text.specs.Number.{digitValue, below, prefixed, digitsOf, worth, magnitude, unsigned}
-use Rattle.text.specs.Utf8.{Range, rows, fits, Character, Inside}
+use Rattle.text.specs.Utf8.{Range, fits, Character, Inside}
 use Rattle.text.proofs.Digits.{no-digit}
 use Rattle.text.proofs.Tests.{and-left, and-right}
 use Rattle.text.proofs.Utf8Laws.{fits-length}

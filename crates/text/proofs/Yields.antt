@@ -26,9 +26,6 @@ module _ {A : Type 0} (Q : A → Type 0) (R : ℕ → Type 0) where
   pub yields-read : (x : Reading A) (a : A) → Yields Q R x → x ≡ read a → Q a
   yields-read x a h e = subst (Yields Q R) e h
 
-  pub yields-refused : (x : Reading A) (k : ℕ) → Yields Q R x → x ≡ refused k → R k
-  yields-refused x k h e = subst (Yields Q R) e h
-
   -- a test, with a refusal where it fails
   tested : (t : Bool) (r : Reading A) (k : ℕ) → R k → (t ≡ true → Yields Q R r) → Yields Q R (cond t r (refused k))
   tested true r k n h = h refl

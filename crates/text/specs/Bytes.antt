@@ -1,11 +1,11 @@
 -- A line is a list of bytes, and a byte a number below 256. Tests on lines, and where a byte stands.
-use Prim.Native.Nat.{ℕ, zero, suc, _+_, _-_}
-use Prim.Native.Char.{Char, code}
+use Prim.Native.Nat.{ℕ, suc, _+_, _-_}
+use Prim.Native.Char.{code}
 use Prim.Native.String.{String}
 use Prim.Native.String.{[] as empty, _∷_ as _then_}
 use mathlib.Core.Bool.{Bool, true, false, cond, _&&_}
 use mathlib.Core.List.{List, [], _∷_}
-use lib.ListN.{length, take, drop}
+use lib.ListN.{length, drop}
 use lib.Dec.{eqb, ltb, leb}
 
 -- a quoted text as its bytes: the code of each of its ASCII characters

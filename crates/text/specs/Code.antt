@@ -1,7 +1,7 @@
 -- Codes that are matched as texts: "00" is not "0".
 use Prim.Native.Nat.{ℕ, suc}
 use Prim.Native.String.{String}
-use mathlib.Core.Bool.{Bool, true, false, cond}
+use mathlib.Core.Bool.{cond}
 use mathlib.Core.List.{List, [], _∷_}
 use mathlib.Core.Option.{Option, none, some}
 use Rattle.text.specs.Bytes.{bytes, same}

@@ -12,7 +12,7 @@ use Rattle.at_command.proofs.NoResponse.{reserved, no-response-after}
 use Rattle.unsolicited.specs.Gnss.{Report, ugnsinfText}
 use Rattle.unsolicited.specs.Registration.{Registration, cregText, cgregText, ceregText}
 use Rattle.unsolicited.specs.Urc.{gnss, registration, begins}
-use Rattle.trial.specs.Said.{each, urcReadings}
+use Rattle.trial.specs.Answer.{each, urcReadings}
 
 -- what holds wherever the line begins with one of the four texts
 begun : {P : Type 0} (l : List ℕ) → begins l ≡ true → (startsWith (bytes "+UGNSINF: ") l ≡ true → P) → (startsWith (bytes "+CREG: ") l ≡ true → P)

@@ -7,7 +7,7 @@ use Rattle.text.proofs.One.{one-answer}
 use Rattle.at_command.proofs.One.{codeOf, code-back}
 use Rattle.at_command.proofs.OneRequest.{kind, kind-back}
 use Rattle.unsolicited.proofs.One.{urc, back-urc}
-use Rattle.trial.specs.Said.{Said, response, unsolicited, lineSaid}
+use Rattle.trial.specs.Answer.{Said, response, unsolicited, lineSaid}
 use Rattle.trial.specs.Sort as S
 use Rattle.trial.specs.Sort.{sortOf, lineSort}
 use Rattle.trial.specs.says.Line.{lineSays, sortSays, LineKeeps, SortedKeeps, SortKeeps}

@@ -28,7 +28,7 @@ use Rattle.unsolicited.specs.declared.UrcAnswer.{UrcAnswer}
 use Rattle.unsolicited.specs.declared.UrcAnswer.the-variants as U
 use Rattle.trial.specs.says.Line.{LineKeeps}
 use Rattle.trial.specs.declared.Line.the-variants as L
-use Rattle.trial.specs.Said.{Said, response, unsolicited, each, urcReadings, allReadings, saidText, lineSaid}
+use Rattle.trial.specs.Answer.{Said, response, unsolicited, each, urcReadings, allReadings, saidText, lineSaid}
 use Rattle.trial.proofs.Apart.{responses-not, urcs-not}
 use Rattle.trial.proofs.Refusals.{Known, three, four, Refuses, responses-refuse}
 

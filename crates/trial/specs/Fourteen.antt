@@ -12,7 +12,7 @@ use Rattle.at_command.specs.Cops.{inFallback}
 use Rattle.at_command.specs.Response.{signal, operator, download, imei}
 use Rattle.unsolicited.specs.Gnss.{notEnabled}
 use Rattle.unsolicited.specs.Urc.{gnss, registration}
-use Rattle.trial.specs.Said.{Said, response, unsolicited}
+use Rattle.trial.specs.Answer.{Said, response, unsolicited}
 
 -- a line and what it says, or its refusal: no reader that is tried accepts it; or a numeral and its f32
 pub data Row : Type 0 where

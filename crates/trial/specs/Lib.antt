@@ -1,4 +1,4 @@
-pub mod Said
+pub mod Answer
 pub mod Sort
 pub mod Fourteen
 pub mod says

@@ -1,17 +1,14 @@
 -- What an accepted line begins with: one of four texts, each a name and ": ", where the Rust splits the line. Assumes nothing.
-use mathlib.Core.Path.{_≡_, refl, sym, ap, _∙_}
-use mathlib.Core.Bool.{true, false, false≢true}
-use mathlib.Core.List.{List, [], _∷_, _++_}
+use mathlib.Core.Path.{_≡_, refl}
+use mathlib.Core.List.{List, _++_}
 use Prim.Native.Nat.{ℕ}
 use Rattle.text.specs.Bytes.{bytes, startsWith}
 use Rattle.text.specs.Reading.{Reading, read, refused, only}
-use Rattle.text.specs.SplitOnce.{AllAgree}
 use Rattle.text.proofs.Begins.{begins-with}
 use Rattle.text.proofs.Yields.{Yields, yields-only, yields-first, yields-mapped, yields-read}
-use Rattle.text.proofs.SplitsOnce.{all-agree}
 use Rattle.unsolicited.specs.Gnss.{ugnsinfText}
 use Rattle.unsolicited.specs.Registration.{cregText, cgregText, ceregText, registrationText}
-use Rattle.unsolicited.specs.Urc.{Unsolicited, gnss, registration, urcText, begins}
+use Rattle.unsolicited.specs.Urc.{Unsolicited, gnss, registration, urcText}
 use Rattle.unsolicited.proofs.Trials.{Plain}
 use Rattle.unsolicited.proofs.Reports.{plain-ugnsinf}
 use Rattle.unsolicited.proofs.Registrations.{plain-registration}
@@ -39,20 +36,3 @@ module _ (P : List ℕ → Type 0) (s : List ℕ) where
 pub plain-urc : (s : List ℕ) → Plain (urcText s)
 unfolding urcText
 plain-urc s = yields-first _ _ 3 _ refl (yields-mapped _ _ gnss _ (plain-ugnsinf s), (yields-mapped _ _ registration _ (plain-registration s), tt))
-
--- a line that does not begin so is refused with 3: a caller that has asked `Urc::begins` need not ask the readers
-pub not-begun : (s : List ℕ) → begins s ≡ false → urcText s ≡ refused 3
-unfolding begins startsWith
-not-begun s e = go (urcText s) refl (plain-urc s)
-  where
-    go : (r : Reading Unsolicited) → urcText s ≡ r → Plain r → r ≡ refused 3
-    go (read u) h p = absurd (false≢true (sym e ∙ urc-cases (λ (l : List ℕ). begins l ≡ true) s (λ t. refl) (λ t. refl) (λ t. refl) (λ t. refl) u h))
-    go (refused k) h p = ap refused p
-
--- the Rust splits a line at its first ": " and compares what stands before it with a name: the same lines, with the same rest
-abbrev pub names : List (List ℕ)
-names = bytes "+UGNSINF" ∷ bytes "+CREG" ∷ bytes "+CGREG" ∷ bytes "+CEREG" ∷ []
-
-pub splits : (s : List ℕ) → AllAgree (bytes ": ") names s
-unfolding startsWith
-splits s = all-agree (bytes ": ") names s refl

@@ -88,7 +88,7 @@ fn registration_at(rest: &[u8], n: usize) -> NetworkRegistrationAnswer
     })
 }
 
-// Reads what follows the prefix: of 1 or 4 fields the status is the first; of 2, of 5 and of the longest line's one field is skipped.
+// Reads what follows the prefix: of 1 or 4 fields the status is the first; of 2, 5 or `longest` one field is skipped before it; any other count is refused.
 pub(crate) fn registration(rest: &[u8], longest: usize) -> NetworkRegistrationAnswer
     ensures { λ r. ⌜ says r ≡ registrationFields (2 ∷ 5 ∷ longest ∷ []) (fields 44 (now (rest .entry))) ⌝ }
 {

@@ -50,10 +50,6 @@ module _ (s : List ℕ) (i sum : ℕ) where
       let y : luhn false s ≡ sum = omega arith in
       rw y
 
--- the digits of the double of a digit make a digit
-pub doubled-le : (d : ℕ) → d ≤ 9 → doubled d ≤ 9
-doubled-le d h = omega arith
-
 -- the digits but the last, and the last
 front : (n : ℕ) (s : List ℕ) → allDigits s ≡ true → allDigits (take n s) ≡ true
 front zero s h = refl

@@ -2,7 +2,7 @@
 use mathlib.Core.Path.{_≡_, sym, ap, _∙_}
 use mathlib.Core.Bool.{Bool}
 use mathlib.Core.List.{List}
-use mathlib.Core.Option.{Option, none, some}
+use mathlib.Core.Option.{none, some}
 use Prim.Native.Nat.{ℕ, _^_, _≤_, _<_}
 use native.Mathlib.Omega.{arith}
 use lib.Ieee.{Float, binary32, round}
@@ -10,9 +10,9 @@ use borrow.Author.Needs.{needs}
 use Rattle.numeral.specs.declared.Scanned.{Scanned}
 use Rattle.numeral.specs.declared.Scanned.the-variants.{Exact, Not}
 use Rattle.text.specs.Reading as R
-use Rattle.text.specs.Reading.{read, need}
+use Rattle.text.specs.Reading.{need}
 use Rattle.numeral.specs.Numeral.{decimalOf, floatOf, numeralText}
-use Rattle.numeral.specs.Nearest.{Answers, value, refused}
+use Rattle.numeral.specs.Nearest.{value, refused}
 use Rattle.numeral.specs.declared.Numeral.the-variants.{Value, Refused}
 use Rattle.numeral.specs.says.Numeral.{scannedSays, NumeralKeeps}
 use Rattle.numeral.proofs.Pattern.{ten-pos}

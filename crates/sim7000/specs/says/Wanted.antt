@@ -5,8 +5,8 @@ use mathlib.Core.Option.{Option, none, some}
 use Rattle.at_command.specs.Request.{Asked}
 use Rattle.at_command.specs.says.Request.{asked}
 use Rattle.sim7000.specs.declared.request.Wanted.{Wanted}
-use Rattle.sim7000.specs.declared.request.Wanted.the-variants.{Is, Unknown}
+use Rattle.sim7000.specs.declared.request.Wanted.the-variants.{Is, Not}
 
 abbrev pub wantedSays : Wanted → List ℕ → List ℕ → Option Asked
 wantedSays (Is q) first second = some (asked q first second)
-wantedSays Unknown first second = none
+wantedSays Not first second = none

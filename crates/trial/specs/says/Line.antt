@@ -6,7 +6,7 @@ use Rattle.text.specs.Reading.{Reading, read, refused, mapped}
 use Rattle.at_command.specs.says.Request.{kindSays}
 use Rattle.at_command.specs.says.Response.{codeSays}
 use Rattle.unsolicited.specs.says.Urc.{urcSays}
-use Rattle.trial.specs.Said.{Said, response, unsolicited, lineSaid}
+use Rattle.trial.specs.Answer.{Said, response, unsolicited, lineSaid}
 use Rattle.trial.specs.Sort as S
 use Rattle.trial.specs.Sort.{sortOf, lineSort}
 use Rattle.trial.specs.declared.Line.{Line}

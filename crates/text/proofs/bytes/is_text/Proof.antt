@@ -2,7 +2,6 @@ use borrow.Author.Needs.{needs}
 use Rattle.text.proofs.bytes.is_text.Statement.{statement}
 use Rattle.text.proofs.bytes.is_text.Tie as tie
 use Prim.Native.Nat.{_-_}
-use lib.ListN.{length}
 use Rattle.text.proofs.Finding.{same-length, other-length}
 
 pub is-text-spec : {M : Type 1} → statement M

@@ -1,6 +1,5 @@
 -- Each turn stores the place behind a byte, and keeps it where the byte is a comma.
 use Prim.Native.Nat.{_-_}
-use native.Mathlib.Omega.{arith}
 use lib.ListN.{length}
 use borrow.Author.Needs.{needs}
 use Rattle.text.proofs.ReaderStarts.{Found, found-none, fits-more, found-more, found-full, found-last}

@@ -1,9 +1,8 @@
 use borrow.Author.Needs.{needs}
 use Rattle.unsolicited.proofs.ugnsinf.field_at.Statement.{statement}
 use Rattle.unsolicited.proofs.ugnsinf.field_at.Tie as tie
-use Prim.Native.Nat.{_+_, _<_}
+use Prim.Native.Nat.{_<_}
 use mathlib.Core.Path.{refl}
-use native.Mathlib.Omega.{arith}
 use lib.ListN.{length}
 use Rattle.text.specs.Field.{fields}
 use Rattle.text.proofs.ReaderStarts.{start-before, starts-field}

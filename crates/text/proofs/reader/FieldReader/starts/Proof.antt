@@ -1,7 +1,7 @@
 -- A citation of `Apart`, at `starts_at`.
 use contract.Lifetimes.{Lfts}
 use contract.Running.{givenOf, tables, tablesOf}
-use denote.RattleType.{RattleType, Denots}
+use denote.RattleType.{Denots}
 use denote.Ref.{now}
 use denote.Signature.{typesAt}
 use denote.Triple.Spec.{tripleOf}
