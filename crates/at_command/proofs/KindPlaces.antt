@@ -24,34 +24,37 @@ at-place imei = refl
 at-place smsMessageFormat = refl
 at-place smsMessage = refl
 
--- what the reader at a place of the trial reads is of the kind at that place
-abbrev InOrder : ℕ → List (Reading Response) → Type 0
-InOrder n [] = Unit {0}
-InOrder n (x ∷ rs) = Yields (λ (r : Response). placeOf (kindOf r) ≡ n) (λ k. Unit {0}) x × InOrder (suc n) rs
-
-named : {A : Type 0} (n : ℕ) (g : A → Response) (x : Reading A) → ((a : A) → placeOf (kindOf (g a)) ≡ n) → Yields (λ (r : Response). placeOf (kindOf r) ≡ n) (λ k. Unit {0}) (mapped g x)
-unfolding mapped
-named n g (read a) f = f a
-named n g (refused k) f = tt
-
 -- of one reading, and of those behind it
 pub then : {A B : Type 0} → A → B → A × B
 then a b = (a, b)
 
+-- what the reader at a place of the trial reads is of the kind at that place
+unfoldable pub InOrder : ℕ → List (Reading Response) → Type 0
+InOrder n [] = Unit {0}
+InOrder n (x ∷ rs) = Yields (λ (r : Response). placeOf (kindOf r) ≡ n) (λ k. Unit {0}) x × InOrder (suc n) rs
+
+last : (n : ℕ) → InOrder n []
+unfolding InOrder
+last n = tt
+
+next : {A : Type 0} (n : ℕ) (g : A → Response) (x : Reading A) (rs : List (Reading Response)) → ((a : A) → placeOf (kindOf (g a)) ≡ n) → InOrder (suc n) rs → InOrder n (mapped g x ∷ rs)
+unfolding InOrder mapped
+next n g (read a) rs f r = (f a, r)
+next n g (refused k) rs f r = (tt, r)
+
 pub trial-order : (s : List ℕ) → InOrder 0 (readings s)
 unfolding readings
 trial-order s =
-    then (named 0 R.ok _ (λ a. refl))
-    (then (named 1 R.error _ (λ a. refl))
-    (then (named 2 R.prompt _ (λ a. refl))
-    (then (named 3 R.closeOk _ (λ a. refl))
-    (then (named 4 R.iccid _ (λ a. refl))
-    (then (named 5 R.signal _ (λ a. refl))
-    (then (named 6 R.system _ (λ a. refl))
-    (then (named 7 R.operator _ (λ a. refl))
-    (then (named 8 R.time _ (λ a. refl))
-    (then (named 9 R.download _ (λ a. refl))
-    (then (named 10 R.imei _ (λ a. refl))
-    (then (named 11 R.format _ (λ a. refl))
-    (then (named 12 R.message _ (λ a. refl))
-    tt))))))))))))
+    next 0 R.ok _ _ (λ a. refl)
+    (next 1 R.error _ _ (λ a. refl)
+    (next 2 R.prompt _ _ (λ a. refl)
+    (next 3 R.closeOk _ _ (λ a. refl)
+    (next 4 R.iccid _ _ (λ a. refl)
+    (next 5 R.signal _ _ (λ a. refl)
+    (next 6 R.system _ _ (λ a. refl)
+    (next 7 R.operator _ _ (λ a. refl)
+    (next 8 R.time _ _ (λ a. refl)
+    (next 9 R.download _ _ (λ a. refl)
+    (next 10 R.imei _ _ (λ a. refl)
+    (next 11 R.format _ _ (λ a. refl)
+    (next 12 R.message _ _ (λ a. refl) (last 13)))))))))))))
