@@ -68,16 +68,6 @@ module _ {S T : Type 0} (m : Machine S T) where
   unfolding feed
   feed-some s b bs = onward-some (m s b .tell) (m s b .state) (feed m (m s b .state) bs)
 
-  -- one that tells nothing takes all of them
-  onward-quiet : (o : Option T) (s : S) (f : Stop S T) (after-all : S) → onward o s f .tell ≡ none → (f .tell ≡ none → f .state ≡ after-all) → onward o s f .state ≡ after-all
-  onward-quiet none s f after-all e h = h e
-  onward-quiet (some t) s f after-all e h = absurd (let z : _≡_ {A = ℕ} 0 1 = cc in omega arith)
-
-  pub feed-quiet : (s : S) (chunk : List ℕ) → feed m s chunk .tell ≡ none → feed m s chunk .state ≡ after m s chunk
-  unfolding feed after
-  feed-quiet s [] e = refl
-  feed-quiet s (b ∷ bs) e = onward-quiet (m s b .tell) (m s b .state) (feed m (m s b .state) bs) (after m (m s b .state) bs) e (feed-quiet (m s b .state) bs)
-
   -- and after what it leaves of the chunk the machine is where it is after the chunk
   pub feed-rest : (s : S) (chunk : List ℕ) → after m (feed m s chunk .state) (drop (feed m s chunk .taken) chunk) ≡ after m s chunk
   feed-rest s chunk =

@@ -1,1 +1,2 @@
 pub mod Draining
+pub mod Buffer

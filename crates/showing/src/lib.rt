@@ -5,14 +5,13 @@ use console::output;
 use desk::Command;
 use desk::Desk;
 use desk::Event;
-use desk::Fed;
 use desk::FedAnswer;
 use libc::STDIN_FILENO;
 use text::part;
 ghost use mathlib.Core.Path.{_≡_};
 ghost use Rattle.desk.specs.Desk.{afterBytes};
-ghost use Rattle.desk.specs.Says.{stateOf};
-ghost use Rattle.desk.specs.Keeps.{FeedKeeps};
+ghost use Rattle.desk.specs.Says.{stateOf, answerSays};
+ghost use Rattle.desk.specs.Demand.{takenBy};
 
 // A line of output: a word, and the bytes behind it.
 fn print(word: &[u8], rest: &[u8]) {
@@ -45,19 +44,22 @@ fn say(event: Event, line: &[u8]) {
     }
 }
 
-// The desk is held in a local, lent to the call that alters it, and handed on.
-fn lend(desk: Desk, chunk: &[u8], text: &mut [u8]) -> Fed
-    ensures { λ r. ⌜ FeedKeeps desk (now (chunk .entry)) (now (text .entry)) r (now (text .exit)) ⌝ }
+// Says what an answer tells, and answers how many bytes were taken.
+fn told(answer: FedAnswer, text: &[u8]) -> usize
+    ensures { λ r. ⌜ r ≡ takenBy (answerSays answer) ⌝ }
 {
-    let mut d = desk;
-    let answer = d.feed_lent(chunk, text);
-    Fed {
-        desk: d,
-        answer: answer,
+    match answer {
+        // never: text has room for every line
+        FedAnswer::Refused(_) => 0,
+        FedAnswer::Quiet(taken) => taken,
+        FedAnswer::Heard { event, taken, size } => {
+            say(event, part::part(text, 0, size));
+            taken
+        }
     }
 }
 
-// Feeds a chunk, event by event, until all its bytes are taken.
+// Feeds a chunk, event by event, until all its bytes are taken. The desk is a local, lent to the call that alters it.
 fn drain(desk: Desk, chunk: &[u8]) -> Desk
     ensures { λ r. ⌜ stateOf r ≡ afterBytes (stateOf desk) (now (chunk .entry)) ⌝ }
 {
@@ -65,23 +67,8 @@ fn drain(desk: Desk, chunk: &[u8]) -> Desk
     let mut text = [0u8; 256];
     let mut at = 0;
     while at < chunk.len() {
-        let fed = lend(d, part::skip(chunk, at), &mut text);
-        let after = fed.desk;
-        d = after;
-        let answer = fed.answer;
-        match answer {
-            // never: text has room for every line
-            FedAnswer::Refused(_) => {
-                return d;
-            }
-            FedAnswer::Quiet(_) => {
-                return d;
-            }
-            FedAnswer::Heard { event, taken, size } => {
-                say(event, part::part(&text, 0, size));
-                at += taken;
-            }
-        }
+        let answer = d.feed_lent(part::skip(chunk, at), &mut text);
+        at += told(answer, &text);
     }
     d
 }
@@ -107,7 +94,7 @@ pub fn run() {
     );
     let mut d = opened.desk;
     let mut buffer = io::large_buffer();
-    // the input is longer than no counter: each turn reads a byte
+    // no input has more turns: each reads a byte
     let mut turns = u64::MAX;
     while 0 < turns {
         let got = libc::read(STDIN_FILENO, &mut buffer);
