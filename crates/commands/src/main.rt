@@ -4,7 +4,8 @@ use at_command::cmgf::SmsMessageFormat;
 use at_command::request::Encoded;
 use at_command::request::Request;
 use console::input;
-use console::input::Next;
+use console::input::FIRST;
+use console::input::Turn;
 use console::output;
 use text::bytes;
 use text::field;
@@ -12,7 +13,7 @@ use text::number;
 use text::number::ParsedU8;
 use text::number::ParsedU16;
 use text::part;
-use text::part::Place;
+ghost use Prim.Native.Nat.{_-_, _≤_};
 
 // A longer line is unknown: of one that long some bytes may be gone (see console::input).
 const LONGEST: usize = 32767;
@@ -139,21 +140,23 @@ fn answer(out: &mut [u8], at: usize, line: &[u8]) -> usize {
     }
 }
 
+fn turn(buffer: &mut [u8], out: &mut [u8], before: Turn) -> Turn
+    ensures { λ r. ⌜ r .left ≤ before .left - 1 ⌝ }
+{
+    let mut t = input::next_turn(buffer, out, before);
+    if t.left == 0 {
+        return t;
+    }
+    let line = t.line;
+    let e = answer(out, t.at, part::part(buffer, line.start, line.end));
+    t.at = output::end_line(out, e);
+    t
+}
+
 fn run(buffer: &mut [u8], out: &mut [u8]) {
-    let mut start = 0;
-    let mut end = 0;
-    let mut at = 0;
-    // no input has more lines
-    let mut left = u64::MAX;
-    while 0 < left {
-        let Next::Line { line, rest } = input::next_line(buffer, Place { start, end }) else {
-            return output::flush(out, at);
-        };
-        start = rest.start;
-        end = rest.end;
-        let e = answer(out, at, part::part(buffer, line.start, line.end));
-        at = output::end_line(out, e);
-        left -= 1;
+    let mut t = FIRST;
+    while 0 < t.left {
+        t = turn(buffer, out, t);
     }
 }
 

@@ -6,12 +6,10 @@ use Prim.Native.Nat.{ℕ, _-_, _≤_, _<_}
 use native.Mathlib.Nat.{le-trans, le-antisymm, lt-irrefl, lt-of-lt-of-le, lt-of-not-le, le-of-suc-le-suc, pow-le-pow-right}
 use native.Mathlib.Omega.{arith}
 use lib.Dec.{ltb}
-use lib.Ieee.{Float}
 use lib.ListN.{length}
 use Rattle.io.specs.Digits.{digits, Fewest}
 use Rattle.text.specs.Bytes.{bytes}
-use Rattle.numeral.specs.Bits.{bitsOf}
-use Rattle.console.specs.Output.{Puts, PutsNumber, PutsDecimal, PutsFloat, EndsLine}
+use Rattle.console.specs.Output.{Puts, PutsNumber, PutsDecimal, PutsHex, EndsLine}
 
 -- one answer: output::put
 pub one-put : (s before x y : List ℕ) (at e f : ℕ) → Puts s at before e x → Puts s at before f y → (e ≡ f) × (x ≡ y)
@@ -35,9 +33,9 @@ one-number base least n b before x y at e f p q =
 pub one-decimal : (n at : ℕ) (before : List ℕ) (e f : ℕ) (x y : List ℕ) → PutsDecimal n at before e x → PutsDecimal n at before f y → (e ≡ f) × (x ≡ y)
 one-decimal n at before e f x y = one-number 10 1 n (omega arith) before x y at e f
 
--- one answer: output::put_float
-pub one-float : (v : Float) (at : ℕ) (before : List ℕ) (e f : ℕ) (x y : List ℕ) → PutsFloat v at before e x → PutsFloat v at before f y → (e ≡ f) × (x ≡ y)
-one-float v at before e f x y = one-number 16 8 (bitsOf v) (omega arith) before x y at e f
+-- one answer: output::put_hex
+pub one-hex : (n at : ℕ) (before : List ℕ) (e f : ℕ) (x y : List ℕ) → PutsHex n at before e x → PutsHex n at before f y → (e ≡ f) × (x ≡ y)
+one-hex n at before e f x y = one-number 16 8 n (omega arith) before x y at e f
 
 -- one answer: output::end_line
 pub one-line : (before x y : List ℕ) (at e f : ℕ) → EndsLine at before e x → EndsLine at before f y → (e ≡ f) × (x ≡ y)

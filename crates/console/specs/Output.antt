@@ -4,11 +4,9 @@ use mathlib.Core.Path.{_≡_}
 use mathlib.Core.Bool.{Bool, cond}
 use mathlib.Core.List.{List, _++_}
 use lib.Dec.{leb, ltb}
-use lib.Ieee.{Float}
 use lib.ListN.{length, take, drop}
 use Rattle.io.specs.Digits.{digits, Fewest}
 use Rattle.text.specs.Bytes.{bytes}
-use Rattle.numeral.specs.Bits.{bitsOf}
 
 -- whether a text has room at an index of a buffer
 unfoldable pub hasRoom : List ℕ → ℕ → List ℕ → Bool
@@ -25,12 +23,12 @@ pub record PutsNumber (base least n at : ℕ) (before : List ℕ) (end : ℕ) (a
   pub fewest : Fewest base least n places
   pub puts : Puts (digits base places n) at before end after
 
--- a number in decimal, and the 32 bits of a float as eight hexadecimal digits
+-- a number in decimal, and in eight hexadecimal digits or more, as the 32 bits of a float are printed
 abbrev pub PutsDecimal : ℕ → ℕ → List ℕ → ℕ → List ℕ → Type 0
 PutsDecimal n at before end after = PutsNumber 10 1 n at before end after
 
-abbrev pub PutsFloat : Float → ℕ → List ℕ → ℕ → List ℕ → Type 0
-PutsFloat x at before end after = PutsNumber 16 8 (bitsOf x) at before end after
+abbrev pub PutsHex : ℕ → ℕ → List ℕ → ℕ → List ℕ → Type 0
+PutsHex n at before end after = PutsNumber 16 8 n at before end after
 
 -- an LF, and the place of the next line: the buffer's start where fewer than 1024 bytes are left, since all is then written
 pub record EndsLine (at : ℕ) (before : List ℕ) (next : ℕ) (after : List ℕ) : Type 0 where

@@ -1,11 +1,10 @@
 // Texts and numbers laid into a lent buffer, one behind the other. Each call says where the next one goes; what has no room is left out.
 use libc::STDOUT_FILENO;
-use numeral::bits;
 use text::copy;
 use text::part;
 ghost use Prim.Native.Nat.{_-_};
 ghost use Rattle.text.specs.Gives.{Gives};
-ghost use Rattle.console.specs.Output.{Puts, PutsNumber, PutsDecimal, PutsFloat, EndsLine};
+ghost use Rattle.console.specs.Output.{Puts, PutsDecimal, PutsHex, EndsLine};
 
 // A line has this much room at least when it begins.
 const ROOM: usize = 1024;
@@ -31,20 +30,13 @@ pub fn put_decimal(out: &mut [u8], at: usize, n: u64) -> usize
     put(out, at, &digits[..k])
 }
 
-// The number as eight hexadecimal digits.
-fn put_hex(out: &mut [u8], at: usize, n: u32) -> usize
-    ensures { λ r. ⌜ PutsNumber 16 8 n at (now (out .entry)) r (now (out .exit)) ⌝ }
+// The number in hexadecimal: eight digits, or as many as it has.
+pub fn put_hex(out: &mut [u8], at: usize, n: u64) -> usize
+    ensures { λ r. ⌜ PutsHex n at (now (out .entry)) r (now (out .exit)) ⌝ }
 {
     let mut digits = [0u8; 16];
-    let k = io::hex(n as u64, 8, &mut digits);
+    let k = io::hex(n, 8, &mut digits);
     put(out, at, &digits[..k])
-}
-
-// The bits of a float.
-pub fn put_float(out: &mut [u8], at: usize, x: f32) -> usize
-    ensures { λ r. ⌜ PutsFloat x at (now (out .entry)) r (now (out .exit)) ⌝ }
-{
-    put_hex(out, at, bits::bits_of(x))
 }
 
 // Writes the first n bytes of out to standard output.

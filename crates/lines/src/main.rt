@@ -19,88 +19,82 @@ use at_command::generic_response::SimError;
 use at_command::httptofs::DownloadInfo;
 use at_command::httptofs::StatusCode;
 use console::input;
-use console::input::Next;
+use console::input::FIRST;
+use console::input::Turn;
 use console::output;
+use numeral::bits;
+use text::bytes;
+use text::field;
 use text::number::ParsedU16;
 use text::number::ParsedU32;
 use text::part;
 use text::part::Place;
-use text::reader;
 use trial::Line;
 use unsolicited::Urc;
 use unsolicited::network_registration::NetworkRegistration;
 use unsolicited::network_registration::RegistrationStatus;
-use unsolicited::ugnsinf::DateTime;
 use unsolicited::ugnsinf::GnssFix;
 use unsolicited::ugnsinf::GnssReport;
+ghost use Prim.Native.Nat.{_-_, _≤_};
 
-// A space and word n of a list.
-fn word(out: &mut [u8], at: usize, words: &[u8], n: usize) -> usize {
-    let e = output::put(out, at, b" ");
-    output::put(out, e, reader::nth_field(words, n))
+// What is printed of a line: the number of its form, the values of the form's marks, and where its text stands in the line.
+struct Said {
+    form: usize,
+    values: [u64; 18],
+    text: Place,
 }
 
-// A space and the number.
-fn number(out: &mut [u8], at: usize, n: u64) -> usize {
-    let e = output::put(out, at, b" ");
-    output::put_decimal(out, e, n)
+// The value of what a line lacks. No number of 32 bits, float or word has it.
+const NONE: u64 = u64::MAX;
+
+// A form of up to three values.
+fn with_text(form: usize, a: u64, b: u64, c: u64, text: Place) -> Said {
+    Said {
+        form,
+        values: [a, b, c, 0, 0, 0, 0, 0, 0, 0, 0, 0, 0, 0, 0, 0, 0, 0],
+        text,
+    }
 }
 
-fn float(out: &mut [u8], at: usize, x: f32) -> usize {
-    let e = output::put(out, at, b" ");
-    output::put_float(out, e, x)
+// The same of a line without a text.
+fn plain(form: usize, a: u64, b: u64, c: u64) -> Said {
+    with_text(form, a, b, c, Place { start: 0, end: 0 })
 }
 
-fn none(out: &mut [u8], at: usize) -> usize {
-    output::put(out, at, b" none")
+fn float(x: f32) -> u64 {
+    bits::bits_of(x) as u64
 }
 
-// A space and the text in quotes.
-fn quoted(out: &mut [u8], at: usize, text: &[u8]) -> usize {
-    let a = output::put(out, at, b" \"");
-    let b = output::put(out, a, text);
-    output::put(out, b, b"\"")
+fn wide(n: u32) -> u64 {
+    n as u64
 }
 
-// The same with the text that stands there in the line.
-fn placed(out: &mut [u8], at: usize, line: &[u8], place: Place) -> usize {
-    quoted(out, at, part::part(line, place.start, place.end))
-}
-
-fn coded(out: &mut [u8], at: usize, kind: &[u8], code: u32) -> usize {
-    let e = output::put(out, at, kind);
-    number(out, e, code as u64)
-}
-
-fn sim_error(out: &mut [u8], at: usize, error: SimError) -> usize {
+fn sim_error(error: SimError) -> Said {
     match error {
-        SimError::Generic => output::put(out, at, b" Generic"),
-        SimError::CmeErr { code } => coded(out, at, b" CmeErr", code),
-        SimError::CmsErr { code } => coded(out, at, b" CmsErr", code),
+        SimError::Generic => plain(6, 0, 0, 0),
+        SimError::CmeErr { code } => plain(7, code as u64, 0, 0),
+        SimError::CmsErr { code } => plain(8, code as u64, 0, 0),
     }
 }
 
-fn iccid(out: &mut [u8], at: usize, id: Iccid) -> usize {
-    let a = number(out, at, id.country as u64);
-    let b = number(out, a, id.issuer as u64);
-    number(out, b, id.account)
+fn iccid(id: Iccid) -> Said {
+    plain(11, id.country as u64, id.issuer as u64, id.account)
 }
 
-fn level(out: &mut [u8], at: usize, l: SignalLevel) -> usize {
+fn level(l: SignalLevel) -> u64 {
     match l {
-        SignalLevel::Some(x) => float(out, at, x),
-        SignalLevel::None => none(out, at),
+        SignalLevel::Some(x) => float(x),
+        SignalLevel::None => NONE,
     }
 }
 
-fn signal_quality(out: &mut [u8], at: usize, q: SignalQuality) -> usize {
+fn signal_quality(q: SignalQuality) -> Said {
     let strength = q.signal_strength;
     let quality = q.signal_quality;
-    let e = level(out, at, strength);
-    level(out, e, quality)
+    plain(12, level(strength), level(quality), 0)
 }
 
-fn system_mode(mode: SystemMode) -> usize {
+fn system_mode(mode: SystemMode) -> u64 {
     match mode {
         SystemMode::NoService => 0,
         SystemMode::Gsm => 1,
@@ -109,7 +103,7 @@ fn system_mode(mode: SystemMode) -> usize {
     }
 }
 
-fn operation_mode(mode: OperationMode) -> usize {
+fn operation_mode(mode: OperationMode) -> u64 {
     match mode {
         OperationMode::Online => 0,
         OperationMode::Offline => 1,
@@ -119,24 +113,13 @@ fn operation_mode(mode: OperationMode) -> usize {
     }
 }
 
-fn system_info(out: &mut [u8], at: usize, info: SystemInfo) -> usize {
+fn system_info(info: SystemInfo) -> Said {
     let system = info.system_mode;
     let operation = info.operation_mode;
-    let e = word(
-        out,
-        at,
-        b"NoService,Gsm,LteCatM1,LteNbIot",
-        system_mode(system),
-    );
-    word(
-        out,
-        e,
-        b"Online,Offline,FactoryTest,Reset,LowPower",
-        operation_mode(operation),
-    )
+    plain(13, system_mode(system), operation_mode(operation), 0)
 }
 
-fn operator_mode(mode: OperatorMode) -> usize {
+fn operator_mode(mode: OperatorMode) -> u64 {
     match mode {
         OperatorMode::Automatic => 0,
         OperatorMode::Manual => 1,
@@ -145,7 +128,7 @@ fn operator_mode(mode: OperatorMode) -> usize {
     }
 }
 
-fn operator_format(format: OperatorFormat) -> usize {
+fn operator_format(format: OperatorFormat) -> u64 {
     match format {
         OperatorFormat::Long => 0,
         OperatorFormat::Short => 1,
@@ -153,29 +136,28 @@ fn operator_format(format: OperatorFormat) -> usize {
     }
 }
 
-fn operator_name(out: &mut [u8], at: usize, line: &[u8], name: OperatorName) -> usize {
+fn operator_name(name: OperatorName) -> Place {
     match name {
-        OperatorName::InLine(place) => placed(out, at, line, place),
+        OperatorName::InLine(place) => place,
         // the trial's is empty
-        OperatorName::InFallback(_) => quoted(out, at, b""),
+        OperatorName::InFallback(_) => Place { start: 0, end: 0 },
     }
 }
 
-fn operator_info(out: &mut [u8], at: usize, line: &[u8], info: OperatorInfo) -> usize {
+fn operator_info(info: OperatorInfo) -> Said {
     let mode = info.mode;
     let format = info.format;
     let name = info.operator_name;
-    let a = word(
-        out,
-        at,
-        b"Automatic,Manual,ManualDeregister,ManualAutomatic",
+    with_text(
+        14,
         operator_mode(mode),
-    );
-    let b = word(out, a, b"Long,Short,Numeric", operator_format(format));
-    operator_name(out, b, line, name)
+        operator_format(format),
+        0,
+        operator_name(name),
+    )
 }
 
-fn ntp_code(code: SyncNtpStatusCode) -> usize {
+fn ntp_code(code: SyncNtpStatusCode) -> u64 {
     match code {
         SyncNtpStatusCode::Success => 0,
         SyncNtpStatusCode::NetworkError => 1,
@@ -186,26 +168,17 @@ fn ntp_code(code: SyncNtpStatusCode) -> usize {
     }
 }
 
-fn time_text(out: &mut [u8], at: usize, line: &[u8], time: TimePlace) -> usize {
-    match time {
-        TimePlace::Some(place) => placed(out, at, line, place),
-        TimePlace::None => none(out, at),
+fn network_time(time: NetworkTime) -> Said {
+    let c = time.code;
+    let text = time.time;
+    let code = ntp_code(c);
+    match text {
+        TimePlace::Some(place) => with_text(15, code, 0, 0, place),
+        TimePlace::None => plain(15, code, NONE, 0),
     }
 }
 
-fn network_time(out: &mut [u8], at: usize, line: &[u8], time: NetworkTime) -> usize {
-    let code = time.code;
-    let text = time.time;
-    let e = word(
-        out,
-        at,
-        b"Success,NetworkError,DnsResolutionError,ConnectionError,ServiceResponseError,ServiceResponseTimeout",
-        ntp_code(code),
-    );
-    time_text(out, e, line, text)
-}
-
-fn status_code(code: StatusCode) -> usize {
+fn status_code(code: StatusCode) -> u64 {
     match code {
         StatusCode::Continue => 0,
         StatusCode::Ok => 1,
@@ -224,48 +197,37 @@ fn status_code(code: StatusCode) -> usize {
     }
 }
 
-fn download_info(out: &mut [u8], at: usize, info: DownloadInfo) -> usize {
+fn download_info(info: DownloadInfo) -> Said {
     let code = info.status_code;
-    let e = word(
-        out,
-        at,
-        b"Continue,Ok,PartialContent,BadRequest,NotFound,RequestTimeout,InternalServerError,NotHttpPdu,NetworkError,NoMemory,DnsError,StackBusy,SslContinue,OtherErrors",
-        status_code(code),
-    );
-    number(out, e, info.data_length)
+    plain(16, status_code(code), info.data_length, 0)
 }
 
-fn message_format(format: SmsMessageFormat) -> usize {
+fn message_format(format: SmsMessageFormat) -> u64 {
     match format {
         SmsMessageFormat::Pdu => 0,
         SmsMessageFormat::Text => 1,
     }
 }
 
-// The reader's name, and what it read.
-fn response(out: &mut [u8], at: usize, line: &[u8], code: ResponseCode) -> usize {
-    let kind = code.kind();
-    let names =
-        b"GenericOk,SimError,WritePrompt,CloseOk,Iccid,SignalQuality,SystemInfo,OperatorInfo,NetworkTime,DownloadInfo,Imei,SmsMessageFormat,SmsMessage";
-    let e = output::put(out, at, reader::nth_field(names, kind.place() as usize));
+fn response(code: ResponseCode) -> Said {
     match code {
-        ResponseCode::Ok(_) => e,
-        ResponseCode::Error(error) => sim_error(out, e, error),
-        ResponseCode::WritePrompt(_) => e,
-        ResponseCode::CloseOk(close) => number(out, e, close.connection),
-        ResponseCode::Iccid(id) => iccid(out, e, id),
-        ResponseCode::SignalQuality(q) => signal_quality(out, e, q),
-        ResponseCode::SystemInfo(info) => system_info(out, e, info),
-        ResponseCode::OperatorInfo(info) => operator_info(out, e, line, info),
-        ResponseCode::NetworkTime(time) => network_time(out, e, line, time),
-        ResponseCode::DownloadInfo(info) => download_info(out, e, info),
-        ResponseCode::Imei(id) => placed(out, e, line, id.imei),
-        ResponseCode::SmsMessageFormat(format) => word(out, e, b"Pdu,Text", message_format(format)),
-        ResponseCode::SmsMessage(message) => placed(out, e, line, message.sender),
+        ResponseCode::Ok(_) => plain(5, 0, 0, 0),
+        ResponseCode::Error(error) => sim_error(error),
+        ResponseCode::WritePrompt(_) => plain(9, 0, 0, 0),
+        ResponseCode::CloseOk(close) => plain(10, close.connection, 0, 0),
+        ResponseCode::Iccid(id) => iccid(id),
+        ResponseCode::SignalQuality(q) => signal_quality(q),
+        ResponseCode::SystemInfo(info) => system_info(info),
+        ResponseCode::OperatorInfo(info) => operator_info(info),
+        ResponseCode::NetworkTime(time) => network_time(time),
+        ResponseCode::DownloadInfo(info) => download_info(info),
+        ResponseCode::Imei(id) => with_text(17, 0, 0, 0, id.imei),
+        ResponseCode::SmsMessageFormat(format) => plain(18, message_format(format), 0, 0),
+        ResponseCode::SmsMessage(message) => with_text(19, 0, 0, 0, message.sender),
     }
 }
 
-fn status(s: RegistrationStatus) -> usize {
+fn status(s: RegistrationStatus) -> u64 {
     match s {
         RegistrationStatus::NotRegistered => 0,
         RegistrationStatus::RegisteredHome => 1,
@@ -276,97 +238,131 @@ fn status(s: RegistrationStatus) -> usize {
     }
 }
 
-fn option_u16(out: &mut [u8], at: usize, p: ParsedU16) -> usize {
+fn option_u16(p: ParsedU16) -> u64 {
     match p {
-        ParsedU16::Is(n) => number(out, at, n as u64),
-        ParsedU16::Not => none(out, at),
+        ParsedU16::Is(n) => n as u64,
+        ParsedU16::Not => NONE,
     }
 }
 
-fn option_u32(out: &mut [u8], at: usize, p: ParsedU32) -> usize {
+fn option_u32(p: ParsedU32) -> u64 {
     match p {
-        ParsedU32::Is(n) => number(out, at, n as u64),
-        ParsedU32::Not => none(out, at),
+        ParsedU32::Is(n) => n as u64,
+        ParsedU32::Not => NONE,
     }
 }
 
-fn registration(out: &mut [u8], at: usize, r: NetworkRegistration) -> usize {
+fn registration(r: NetworkRegistration) -> Said {
     let registered = r.status;
     let lac = r.lac;
     let ci = r.ci;
-    let a = output::put(out, at, b"NetworkRegistration");
-    let b = word(
-        out,
-        a,
-        b"NotRegistered,RegisteredHome,Searching,RegistrationDenied,Unknown,RegisteredRoaming",
-        status(registered),
-    );
-    let c = option_u16(out, b, lac);
-    option_u32(out, c, ci)
+    plain(4, status(registered), option_u16(lac), option_u32(ci))
 }
 
-fn day(out: &mut [u8], at: usize, d: DateTime) -> usize {
-    let a = number(out, at, d.year as u64);
-    let b = number(out, a, d.month as u64);
-    number(out, b, d.day as u64)
-}
-
-fn time(out: &mut [u8], at: usize, d: DateTime) -> usize {
-    let a = number(out, at, d.hour as u64);
-    let b = number(out, a, d.minute as u64);
-    number(out, b, d.second as u64)
-}
-
-fn position(out: &mut [u8], at: usize, f: GnssFix) -> usize {
-    let a = float(out, at, f.latitude);
-    let b = float(out, a, f.longitude);
-    let c = float(out, b, f.altitude);
-    let d = float(out, c, f.hdop);
-    let e = float(out, d, f.pdop);
-    let g = float(out, e, f.vdop);
-    let h = float(out, g, f.speed_over_ground);
-    float(out, h, f.course_over_ground)
-}
-
-fn satellites(out: &mut [u8], at: usize, f: GnssFix) -> usize {
-    let a = number(out, at, f.sat_gps_in_view as u64);
-    let b = number(out, a, f.sat_gnss_used as u64);
-    let c = number(out, b, f.sat_glonass_used as u64);
-    number(out, c, f.signal_noise_ratio as u64)
-}
-
-fn fix(out: &mut [u8], at: usize, f: GnssFix) -> usize {
+fn fix(f: GnssFix) -> Said {
     let date = f.date_time;
-    let a = output::put(out, at, b"GnssReport Fix");
-    let b = day(out, a, date);
-    let c = time(out, b, date);
-    let d = position(out, c, f);
-    satellites(out, d, f)
+    Said {
+        form: 3,
+        values: [
+            date.year as u64,
+            date.month as u64,
+            date.day as u64,
+            date.hour as u64,
+            date.minute as u64,
+            date.second as u64,
+            float(f.latitude),
+            float(f.longitude),
+            float(f.altitude),
+            float(f.hdop),
+            float(f.pdop),
+            float(f.vdop),
+            float(f.speed_over_ground),
+            float(f.course_over_ground),
+            wide(f.sat_gps_in_view),
+            wide(f.sat_gnss_used),
+            wide(f.sat_glonass_used),
+            wide(f.signal_noise_ratio),
+        ],
+        text: Place { start: 0, end: 0 },
+    }
 }
 
-fn no_fix(out: &mut [u8], at: usize, view: ParsedU32) -> usize {
-    let e = output::put(out, at, b"GnssReport NoFix");
-    option_u32(out, e, view)
-}
-
-fn report(out: &mut [u8], at: usize, r: GnssReport) -> usize {
+fn report(r: GnssReport) -> Said {
     match r {
-        GnssReport::NotEnabled => output::put(out, at, b"GnssReport NotEnabled"),
-        GnssReport::NoFix { sat_gps_view } => no_fix(out, at, sat_gps_view),
-        GnssReport::Fix(f) => fix(out, at, f),
+        GnssReport::NotEnabled => plain(1, 0, 0, 0),
+        GnssReport::NoFix { sat_gps_view } => plain(2, option_u32(sat_gps_view), 0, 0),
+        GnssReport::Fix(f) => fix(f),
     }
 }
 
-fn urc(out: &mut [u8], at: usize, u: Urc) -> usize {
+fn urc(u: Urc) -> Said {
     match u {
-        Urc::GnssReport(r) => report(out, at, r),
-        Urc::NetworkRegistration(r) => registration(out, at, r),
+        Urc::GnssReport(r) => report(r),
+        Urc::NetworkRegistration(r) => registration(r),
     }
 }
 
-fn refused(out: &mut [u8], at: usize, k: u8) -> usize {
-    let e = output::put(out, at, b"refused");
-    number(out, e, k as u64)
+fn say(line: &[u8]) -> Said {
+    let said = Line::from_line(line);
+    match said {
+        Line::Response(code) => response(code),
+        Line::Unsolicited(u) => urc(u),
+        Line::Refused(k) => plain(0, k as u64, 0, 0),
+    }
+}
+
+fn quoted(out: &mut [u8], at: usize, quote: &[u8], text: &[u8]) -> usize {
+    let a = output::put(out, at, quote);
+    let b = output::put(out, a, text);
+    output::put(out, b, quote)
+}
+
+// The first byte of a mark, and 0 where the word behind it stands for the value.
+fn kind(mark: &[u8], n: u64) -> u8 {
+    if mark.len() == 0 {
+        return 0;
+    }
+    if n == NONE {
+        if 1 < mark.len() {
+            return 0;
+        }
+    }
+    mark[0]
+}
+
+fn word(mark: &[u8], n: u64) -> &[u8] {
+    if n == NONE {
+        return field::field(mark, b'/', 1);
+    }
+    field::field(mark, b'/', n as usize)
+}
+
+// A space, and what a mark says of a value.
+fn marked(out: &mut [u8], at: usize, mark: &[u8], n: u64, text: &[u8]) -> usize {
+    let e = output::put(out, at, b" ");
+    match kind(mark, n) {
+        b'#' => output::put_decimal(out, e, n),
+        b'%' => output::put_hex(out, e, n),
+        b'"' => quoted(out, e, word(mark, 0), text),
+        _ => output::put(out, e, word(mark, n)),
+    }
+}
+
+// Lays a form with its values.
+fn fill(out: &mut [u8], at: usize, form: &[u8], values: &[u64], text: &[u8]) -> usize {
+    let mut comma = bytes::find(form, 0, b',');
+    let mut to = output::put(out, at, part::part(form, 0, comma));
+    let mut k = 0;
+    while k < values.len() {
+        if form.len() <= comma {
+            return to;
+        }
+        let e = bytes::find(form, comma + 1, b',');
+        to = marked(out, to, part::part(form, comma + 1, e), values[k], text);
+        comma = e;
+        k += 1;
+    }
+    to
 }
 
 // The line without a CR at its end.
@@ -381,31 +377,59 @@ fn without_cr(line: &[u8]) -> &[u8] {
     line
 }
 
+// The forms, one to a line: the first word, and behind each comma what follows a space. `#` is a number, `%` the bits of a float, `"` the text in quotes,
+// each with the word for NONE behind it where the line may lack it; all else are words, of which the value names one.
 fn answer(out: &mut [u8], at: usize, whole: &[u8]) -> usize {
+    let forms = b"refused,#
+GnssReport NotEnabled
+GnssReport NoFix,#/none
+GnssReport Fix,#,#,#,#,#,#,%,%,%,%,%,%,%,%,#,#,#,#
+NetworkRegistration,NotRegistered/RegisteredHome/Searching/RegistrationDenied/Unknown/RegisteredRoaming,#/none,#/none
+GenericOk
+SimError Generic
+SimError CmeErr,#
+SimError CmsErr,#
+WritePrompt
+CloseOk,#
+Iccid,#,#,#
+SignalQuality,%/none,%/none
+SystemInfo,NoService/Gsm/LteCatM1/LteNbIot,Online/Offline/FactoryTest/Reset/LowPower
+OperatorInfo,Automatic/Manual/ManualDeregister/ManualAutomatic,Long/Short/Numeric,\"
+NetworkTime,Success/NetworkError/DnsResolutionError/ConnectionError/ServiceResponseError/ServiceResponseTimeout,\"/none
+DownloadInfo,Continue/Ok/PartialContent/BadRequest/NotFound/RequestTimeout/InternalServerError/NotHttpPdu/NetworkError/NoMemory/DnsError/StackBusy/SslContinue/OtherErrors,#
+Imei,\"
+SmsMessageFormat,Pdu/Text
+SmsMessage,\"";
     let line = without_cr(whole);
-    let said = Line::from_line(line);
-    match said {
-        Line::Response(code) => response(out, at, line, code),
-        Line::Unsolicited(u) => urc(out, at, u),
-        Line::Refused(k) => refused(out, at, k),
+    let s = say(line);
+    let values = s.values;
+    let text = s.text;
+    fill(
+        out,
+        at,
+        field::field(forms, b'\n', s.form),
+        &values,
+        part::part(line, text.start, text.end),
+    )
+}
+
+fn turn(buffer: &mut [u8], out: &mut [u8], before: Turn) -> Turn
+    ensures { λ r. ⌜ r .left ≤ before .left - 1 ⌝ }
+{
+    let mut t = input::next_turn(buffer, out, before);
+    if t.left == 0 {
+        return t;
     }
+    let line = t.line;
+    let e = answer(out, t.at, part::part(buffer, line.start, line.end));
+    t.at = output::end_line(out, e);
+    t
 }
 
 fn run(buffer: &mut [u8], out: &mut [u8]) {
-    let mut start = 0;
-    let mut end = 0;
-    let mut at = 0;
-    // no input has more lines
-    let mut left = u64::MAX;
-    while 0 < left {
-        let Next::Line { line, rest } = input::next_line(buffer, Place { start, end }) else {
-            return output::flush(out, at);
-        };
-        start = rest.start;
-        end = rest.end;
-        let e = answer(out, at, part::part(buffer, line.start, line.end));
-        at = output::end_line(out, e);
-        left -= 1;
+    let mut t = FIRST;
+    while 0 < t.left {
+        t = turn(buffer, out, t);
     }
 }
 
