@@ -1,14 +1,14 @@
 -- Laws of a search through a chunk: its turns, the bytes that are laid at once, and the bytes with no LF.
-use Prim.Native.Nat.{ℕ, suc, _+_, _-_, _≤_, _<_}
-use mathlib.Core.Path.{_≡_, refl, _∙_}
+use Prim.Native.Nat.{ℕ, zero, suc, _+_, _-_, _≤_, _<_}
+use mathlib.Core.Path.{_≡_, refl, sym, ap, subst, _∙_}
 use mathlib.Core.Bool.{true, false}
 use mathlib.Core.Logic.{⊎-elim}
-use mathlib.Core.List.{List, [], _∷_}
+use mathlib.Core.List.{List, [], _∷_, _++_}
 use mathlib.Core.Option.{none}
 use native.Mathlib.Omega.{arith}
 use native.Mathlib.Numerals.{add-one}
-use lib.ListN.{length, drop, getD, set, length-set, drop-of-length-le}
-use lib.Seq.{drop-cons}
+use lib.ListN.{length, take, drop, getD, set, length-set, length-drop, drop-of-length-le}
+use lib.Seq.{drop-cons, getD-drop, length-take-le, paste, paste-zero, paste-suc}
 use lib.Dec.{ltb}
 use borrow.Author.Tests.{ltb-true, ltb-false}
 use Rattle.desk.specs.Cut.{Piece, nothing, blank, overlong, line}
@@ -16,6 +16,9 @@ use Rattle.desk.specs.Machine.{Stop, onward, feed}
 use Rattle.desk.specs.Lines.{Line, lineOf}
 use Rattle.desk.specs.Desk.{Tray, layOne, buffered}
 use Rattle.desk.specs.Search.{trayOf, Pushed, pushOne, stops, foundAfter, Filled, Clear, Putting}
+use Rattle.text.specs.Copy.{LayKeeps}
+use Rattle.text.specs.Part.{partOf}
+use Rattle.text.proofs.Copying.{whole-holds}
 use Rattle.text.proofs.Tests.{both, never}
 use Rattle.desk.proofs.Cutting.{past-below, prompt-far, push-more}
 
@@ -119,3 +122,31 @@ clear-one f g = clear-join f (clear-at g)
 -- fewer bytes have none either
 pub clear-part : {s : List ℕ} {at n m : ℕ} → m ≤ n → Clear s at n → Clear s at m
 clear-part h f = record { none = λ k g e. f .none k (omega arith) e }
+
+-- ---- bytes laid by text's copying
+
+fill-all : (s : List ℕ) (len : ℕ) (chunk : List ℕ) (at n : ℕ) → Putting s len chunk at n → Filled s len chunk at n (paste s len (drop at chunk) n)
+fill-all s len chunk at zero p = subst (Filled s len chunk at 0) (paste-zero s len (drop at chunk)) (fill-none s len chunk at)
+fill-all s len chunk at (suc n) p =
+    let q : Putting s len chunk at (n + 1) = subst (Putting s len chunk at) (sym (add-one n)) p in
+    let few : n ≤ n + 1 = omega arith in
+    let before : Putting s len chunk at n = record { long = q .long; two = q .two; room = omega (arith, q .room); some = omega (arith, q .some); clear = clear-part few (q .clear) } in
+    let laid : List ℕ = paste s len (drop at chunk) n in
+    let e : set laid (len + n) (getD chunk (at + n) 0) ≡ paste s len (drop at chunk) (suc n) =
+    ap (set laid (len + n)) (sym (getD-drop at chunk n 0))
+    ∙ paste-suc s len (drop at chunk) n 0 (omega (arith, q .room, q .long)) (omega (arith, q .some, length-drop at chunk)) in
+    subst (Filled s len chunk at (suc n)) e
+    (subst (λ (k : ℕ). Filled s len chunk at k (set laid (len + n) (getD chunk (at + n) 0))) (add-one n) (fill-more s len chunk at n laid q (fill-all s len chunk at n before)))
+
+pub laid-filled : (s : List ℕ) (len : ℕ) (chunk : List ℕ) (at n : ℕ) (piece : List ℕ) (e : ℕ) (x : List ℕ) → Putting s len chunk at n → piece ≡ partOf chunk at (at + n)
+    → LayKeeps piece len s e x → Filled s len chunk at n x
+unfolding partOf
+laid-filled s len chunk at n piece e x p is l =
+    let z : at + n - at ≡ n = omega arith in
+    let i : piece ≡ take n (drop at chunk) = is ∙ ap (λ (k : ℕ). take k (drop at chunk)) z in
+    let size : length piece ≡ n = ap length i ∙ length-take-le n (drop at chunk) (omega (arith, p .some, length-drop at chunk)) in
+    let w : x ≡ paste s len (drop at chunk) n =
+    whole-holds piece len s e x (omega (arith, size, p .room, p .long)) l
+    ∙ ap (λ (t : List ℕ). take len s ++ t ++ drop (len + length piece) s) i
+    ∙ ap (λ (k : ℕ). take len s ++ take n (drop at chunk) ++ drop (len + k) s) size in
+    subst (Filled s len chunk at n) (sym w) (fill-all s len chunk at n p)

@@ -1,5 +1,6 @@
 // Cutting a modem's bytes into lines, with no array copied.
 use text::copy;
+use text::part;
 ghost use mathlib.Core.Path.{_≡_};
 ghost use mathlib.Core.List.{List, [], _∷_, _++_};
 ghost use Prim.Native.Nat.{ℕ, _+_, _≤_};
@@ -195,11 +196,7 @@ fn put(line: &mut [u8; 257], len: usize, chunk: &[u8], at: usize, n: usize)
     requires { ⌜ Putting (now line) len (now chunk) at n ⌝ }
     ensures { λ _. ⌜ Filled (now (line .entry)) len (now (chunk .entry)) at n (now (line .exit)) ⌝ }
 {
-    let mut k = 0;
-    while k < n {
-        line[len + k] = chunk[at + k];
-        k += 1;
-    }
+    let _end = copy::lay(part::part(chunk, at, at + n), len, line);
 }
 
 // Lays the bytes of chunk from at on behind the len that are held, up to an LF, the 256th byte or the chunk's end, and says how many.
