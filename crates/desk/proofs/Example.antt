@@ -22,8 +22,9 @@ use Rattle.at_command.specs.says.Request.{awaitedBy}
 use Rattle.at_command.specs.declared.request.Request.the-variants.{GetSignalQuality}
 use Rattle.unsolicited.specs.Gnss.{ugnsinfText}
 use Rattle.unsolicited.specs.Registration.{cregText, cgregText, ceregStatus, ceregFields, ceregText}
+use Rattle.unsolicited.specs.Urc.{urcReadings}
 use Rattle.desk.specs.Cut.{bare, cutOne}
-use Rattle.trial.specs.Answer.{urcReadings, allReadings, saidText, lineSaid}
+use Rattle.trial.specs.Answer.{allReadings, saidText, lineSaid}
 use Rattle.trial.specs.Sort.{lineSort}
 use Rattle.desk.specs.Machine.{tells, judgeAll}
 use Rattle.desk.specs.Lines.{cutter}

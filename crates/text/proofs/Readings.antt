@@ -11,7 +11,7 @@ use borrow.Author.Tests.{eq-eqb, ne-eqb, le-leb, lt-leb, not-true, not-false}
 use Rattle.text.specs.Bytes.{same, has}
 use Rattle.text.specs.Part.{before, after, trimmed}
 use Rattle.text.specs.Field.{fields, nth}
-use Rattle.text.specs.Reading.{Reading, read, refused, only, either, need, sized, fitting, mapped, worse, firstOf}
+use Rattle.text.specs.Reading.{Reading, read, refused, only, either, need, sized, fitting, mapped, each, worse, firstOf}
 
 module _ {A : Type 0} where
   pub only-not : (t x : Bool) (r : Reading A) → x ≡ t → x ≡ false → refused 3 ≡ only t r
@@ -173,6 +173,13 @@ module _ {A B : Type 0} (j : ℕ) (g : A → B) (x : Reading A) (rs : List (Read
 pub first-none : {B : Type 0} (j : ℕ) → _≡_ {A = Reading B} (refused j) (firstOf j [])
 unfolding firstOf
 first-none j = refl
+
+-- readers under another name
+pub first-each : {A B : Type 0} (f : A → B) (j : ℕ) (rs : List (Reading A)) → firstOf j (each f rs) ≡ mapped f (firstOf j rs)
+unfolding firstOf mapped
+first-each f j [] = refl
+first-each f j (read a ∷ rs) = refl
+first-each f j (refused k ∷ rs) = first-each f (worse j k) rs
 
 -- the same for a reader whose answer r is of an enum R, which f says on paper: given f, a constructor and how it is said
 module _ {R A B : Type 0} (f : R → Reading A) where

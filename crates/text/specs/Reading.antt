@@ -44,6 +44,11 @@ module _ {A B : Type 0} where
   mapped f (read a) = read (f a)
   mapped f (refused k) = refused k
 
+  -- the same of each reader
+  abbrev pub each : (A → B) → List (Reading A) → List (Reading B)
+  each f [] = []
+  each f (r ∷ rs) = mapped f r ∷ each f rs
+
 -- the refusal of readers tried one after the other: 4 where one said 4 (document 01, "Refusal numbers", 3)
 abbrev pub worse : ℕ → ℕ → ℕ
 worse j k = cond (eqb j 4) 4 k

@@ -5,14 +5,13 @@ use mathlib.Core.Path.{_≡_, refl}
 use mathlib.Core.Bool.{Bool, true, false, _||_}
 use mathlib.Core.List.{List, [], _∷_}
 use Rattle.text.specs.Bytes.{bytes, startsWith}
-use Rattle.text.specs.Reading.{Reading, refused, only, mapped}
+use Rattle.text.specs.Reading.{Reading, refused, only, mapped, each}
 use Rattle.text.proofs.Tests.{never}
 use Rattle.at_command.specs.Response.{responseText}
 use Rattle.at_command.proofs.NoResponse.{reserved, no-response-after}
 use Rattle.unsolicited.specs.Gnss.{Report, ugnsinfText}
 use Rattle.unsolicited.specs.Registration.{Registration, cregText, cgregText, ceregText}
-use Rattle.unsolicited.specs.Urc.{gnss, registration, begins}
-use Rattle.trial.specs.Answer.{each, urcReadings}
+use Rattle.unsolicited.specs.Urc.{gnss, registration, urcReadings, begins}
 
 -- what holds wherever the line begins with one of the four texts
 begun : {P : Type 0} (l : List ℕ) → begins l ≡ true → (startsWith (bytes "+UGNSINF: ") l ≡ true → P) → (startsWith (bytes "+CREG: ") l ≡ true → P)

@@ -21,7 +21,8 @@ use Rattle.at_command.specs.Httptofs.{httptofsText, downloadOf}
 use Rattle.at_command.specs.Response.{readings}
 use Rattle.unsolicited.specs.Registration.{cregText, cgregText, ceregText, registrationFields, registrationAt, ceregFields, ceregStatus, hexIn, statusOf}
 use Rattle.unsolicited.specs.Gnss.{ugnsinfText, ugnsinfFields}
-use Rattle.trial.specs.Answer.{urcReadings, allReadings, saidText, lineSaid}
+use Rattle.unsolicited.specs.Urc.{urcReadings}
+use Rattle.trial.specs.Answer.{allReadings, saidText, lineSaid}
 use Rattle.trial.specs.Fourteen.{rows}
 use Rattle.trial.specs.says.Fourteen.{All}
 

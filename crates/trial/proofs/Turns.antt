@@ -6,15 +6,13 @@ use mathlib.Core.List.{List, [], _∷_, _++_}
 use native.Mathlib.Omega.{arith}
 use lib.Dec.{eqb}
 use Rattle.text.specs.Line.{lineCheck, checked}
-use Rattle.text.specs.Reading.{Reading, read, refused, mapped, firstOf, worse}
+use Rattle.text.specs.Reading.{Reading, read, refused, mapped, each, firstOf, worse}
 use Rattle.text.proofs.LineLaws.{check-low}
+use Rattle.text.proofs.Readings.{first-each}
 use Rattle.text.proofs.Yields.{yields-mapped}
 use Rattle.at_command.specs.Response.{Response, readings, responseText}
-use Rattle.unsolicited.specs.Gnss.{Report, ugnsinfText}
-use Rattle.unsolicited.specs.Registration.{Registration, cregText, cgregText, ceregText, registrationText}
-use Rattle.unsolicited.specs.Urc.{Unsolicited, gnss, registration, urcText, begins}
+use Rattle.unsolicited.specs.Urc.{Unsolicited, urcReadings, urcText, begins}
 use Rattle.unsolicited.proofs.Trials.{Plain}
-use Rattle.unsolicited.proofs.Reports.{plain-ugnsinf}
 use Rattle.unsolicited.proofs.Prefixes.{plain-urc}
 use Rattle.at_command.specs.says.Response.{ResponseCodeKeeps}
 use Rattle.at_command.specs.says.Response.{says as responseSays}
@@ -28,7 +26,7 @@ use Rattle.unsolicited.specs.declared.UrcAnswer.{UrcAnswer}
 use Rattle.unsolicited.specs.declared.UrcAnswer.the-variants as U
 use Rattle.trial.specs.says.Line.{LineKeeps}
 use Rattle.trial.specs.declared.Line.the-variants as L
-use Rattle.trial.specs.Answer.{Said, response, unsolicited, each, urcReadings, allReadings, saidText, lineSaid}
+use Rattle.trial.specs.Answer.{Said, response, unsolicited, allReadings, saidText, lineSaid}
 use Rattle.trial.proofs.Apart.{responses-not, urcs-not}
 use Rattle.trial.proofs.Refusals.{Known, three, four, Refuses, responses-refuse}
 
@@ -44,30 +42,10 @@ module _ {A : Type 0} where
   first-join j (read a ∷ rs) qs = refl
   first-join j (refused k ∷ rs) qs = first-join (worse j k) rs qs
 
-  first-one : (r : Reading A) → firstOf 3 (r ∷ []) ≡ r
-  unfolding firstOf
-  first-one (read a) = refl
-  first-one (refused k) = refl
-
-first-each : {A B : Type 0} (f : A → B) (j : ℕ) (rs : List (Reading A)) → firstOf j (each f rs) ≡ mapped f (firstOf j rs)
-unfolding firstOf mapped
-first-each f j [] = refl
-first-each f j (read a ∷ rs) = refl
-first-each f j (refused k ∷ rs) = first-each f (worse j k) rs
-
 -- the trial is the responses' and then the unsolicited's
 in-turn : (l : List ℕ) → saidText l ≡ orElse (mapped response (responseText l)) (each unsolicited (urcReadings l))
 unfolding saidText allReadings responseText
 in-turn l = first-join 3 (each response (readings l)) _ ∙ ap (λ (r : Reading Said). orElse r (each unsolicited (urcReadings l))) (first-each response 3 (readings l))
-
--- and the unsolicited's, of which the first refuses with 3, is their own trial
-urc-trial : (l : List ℕ) → firstOf 3 (urcReadings l) ≡ urcText l
-unfolding urcReadings urcText registrationText firstOf mapped
-urc-trial l = go (ugnsinfText l) (plain-ugnsinf l) (cregText l ∷ cgregText l ∷ ceregText l ∷ [])
-  where
-    go : (g : Reading Report) → Plain g → (rs : List (Reading Registration)) → firstOf 3 (mapped gnss g ∷ each registration rs) ≡ firstOf 3 (mapped gnss g ∷ mapped registration (firstOf 3 rs) ∷ [])
-    go (read r) p rs = refl
-    go (refused k) p rs = rw p (first-each registration 3 rs ∙ sym (first-one (mapped registration (firstOf 3 rs))))
 
 abbrev Low : Reading Said → Type 0
 Low (read s) = Unit {0}
@@ -84,12 +62,9 @@ plain-known (refused k) p = subst Known (sym p) three
 
 module _ (l : List ℕ) where
   text-begun : begins l ≡ true → saidText l ≡ mapped unsolicited (urcText l)
-  unfolding mapped
+  unfolding mapped urcText
   text-begun e =
-      in-turn l
-      ∙ ap (λ (r : Reading Response). orElse (mapped response r) (each unsolicited (urcReadings l))) (responses-not l e)
-      ∙ first-each unsolicited 3 (urcReadings l)
-      ∙ ap (mapped unsolicited) (urc-trial l)
+      in-turn l ∙ ap (λ (r : Reading Response). orElse (mapped response r) (each unsolicited (urcReadings l))) (responses-not l e) ∙ first-each unsolicited 3 (urcReadings l)
 
   text-other : begins l ≡ false → saidText l ≡ mapped response (responseText l)
   unfolding mapped firstOf

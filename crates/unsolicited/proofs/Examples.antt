@@ -16,7 +16,7 @@ use Rattle.numeral.specs.Numeral.{floatOf, decimalOf, behindSign}
 use Rattle.numeral.specs.Numeral.{unsigned as behindTheSign}
 use Rattle.unsolicited.specs.Date.{yearOf, pairAt, dateOf}
 use Rattle.unsolicited.specs.Gnss.{noFix, fix, orZero, floatOrZero, countOrZero, dateOrZero, fixOf, ugnsinfFields, ugnsinfText}
-use Rattle.unsolicited.specs.Urc.{Unsolicited, gnss, urcText}
+use Rattle.unsolicited.specs.Urc.{Unsolicited, gnss, urcReadings, urcText}
 
 -- the line is answered so
 abbrev Says : List ℕ → Reading Unsolicited → Type 0
@@ -40,5 +40,5 @@ pub reports :
       signalNoiseRatio = 42;
     }))))
     × Says (bytes "+UGNSINF: 1,0,,,,,,,,,,,,,-0,,,,,,") (read (gnss (noFix none)))
-unfolding checked lineCheck utf8 behind charSize urcText firstOf mapped only either need startsWith same unsigned magnitude digitsOf digitValue valueOf ugnsinfText ugnsinfFields fixOf floatOrZero countOrZero orZero dateOrZero dateOf yearOf pairAt partOf bind floatOf decimalOf behindSign behindTheSign round
+unfolding checked lineCheck utf8 behind charSize urcText urcReadings firstOf mapped only either need startsWith same unsigned magnitude digitsOf digitValue valueOf ugnsinfText ugnsinfFields fixOf floatOrZero countOrZero orZero dateOrZero dateOf yearOf pairAt partOf bind floatOf decimalOf behindSign behindTheSign round
 reports = (refl, refl)

@@ -17,7 +17,7 @@ use Rattle.text.specs.Field.{fields, nth}
 use Rattle.text.specs.Number.{signed}
 use Rattle.text.specs.Reading.{Reading, read}
 use Rattle.text.proofs.Readings.{via}
-use Rattle.unsolicited.specs.Registration.{Registration, statusOf, registrationAt, registrationFields, cregText, cgregText, ceregStatus, ceregFields, ceregText, registrationText}
+use Rattle.unsolicited.specs.Registration.{Registration, statusOf, registrationAt, registrationFields, cregText, cgregText, ceregStatus, ceregFields, ceregText, registrationReadings, registrationText}
 use Rattle.text.proofs.Yields.{yields-only, yields-either, yields-need, yields-first}
 use Rattle.unsolicited.proofs.Trials.{Plain}
 
@@ -92,4 +92,4 @@ plain-cereg s = yields-only _ _ _ _ refl (λ e. yields-need _ _ _ _ refl (λ z h
 
 pub plain-registration : (s : List ℕ) → Plain (registrationText s)
 unfolding registrationText
-plain-registration s = yields-first _ _ 3 (cregText s ∷ cgregText s ∷ ceregText s ∷ []) refl (plain-creg s, (plain-cgreg s, (plain-cereg s, tt)))
+plain-registration s = yields-first _ _ 3 (registrationReadings s) refl (plain-creg s, (plain-cgreg s, (plain-cereg s, tt)))

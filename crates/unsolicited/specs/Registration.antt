@@ -56,6 +56,9 @@ ceregFields fs = need (signed 10 2147483647 (ceregStatus fs)) (λ z. read (recor
 unfoldable pub ceregText : List ℕ → Reading Registration
 ceregText s = only (startsWith (bytes "+CEREG: ") s) (ceregFields (fields 44 (drop 8 s)))
 
--- the three in order of trial
+-- CReg, CGReg, CEReg, in order of trial
+abbrev pub registrationReadings : List ℕ → List (Reading Registration)
+registrationReadings s = cregText s ∷ cgregText s ∷ ceregText s ∷ []
+
 unfoldable pub registrationText : List ℕ → Reading Registration
-registrationText s = firstOf 3 (cregText s ∷ cgregText s ∷ ceregText s ∷ [])
+registrationText s = firstOf 3 (registrationReadings s)

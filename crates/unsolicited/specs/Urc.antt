@@ -1,19 +1,22 @@
 -- The unsolicited lines, in order of trial (document 01, "What the port takes"; mod.rs).
 use Prim.Native.Nat.{ℕ}
 use mathlib.Core.Bool.{Bool, _||_}
-use mathlib.Core.List.{List, [], _∷_}
+use mathlib.Core.List.{List, _∷_}
 use Rattle.text.specs.Bytes.{bytes, startsWith}
-use Rattle.text.specs.Reading.{Reading, mapped, firstOf}
+use Rattle.text.specs.Reading.{Reading, mapped, each, firstOf}
 use Rattle.unsolicited.specs.Gnss.{Report, ugnsinfText}
-use Rattle.unsolicited.specs.Registration.{Registration, registrationText}
+use Rattle.unsolicited.specs.Registration.{Registration, registrationReadings}
 
 pub data Unsolicited : Type 0 where
   gnss : Report → Unsolicited
   registration : Registration → Unsolicited
 
--- +UGNSINF, then +CREG, +CGREG, +CEREG
+-- GnssReport, then the three registrations
+unfoldable pub urcReadings : List ℕ → List (Reading Unsolicited)
+urcReadings s = mapped gnss (ugnsinfText s) ∷ each registration (registrationReadings s)
+
 unfoldable pub urcText : List ℕ → Reading Unsolicited
-urcText s = firstOf 3 (mapped gnss (ugnsinfText s) ∷ mapped registration (registrationText s) ∷ [])
+urcText s = firstOf 3 (urcReadings s)
 
 -- the line begins as one of these does; no other is accepted
 unfoldable pub begins : List ℕ → Bool

@@ -1,6 +1,6 @@
 -- Each turn takes one of the values.
-use Rattle.lines.proofs.fill.Statement.{statement}
-use Rattle.lines.proofs.fill.Tie as tie
+use Rattle.answering.proofs.lines.fill.Statement.{statement}
+use Rattle.answering.proofs.lines.fill.Tie as tie
 use mathlib.Core.Path.{_≡_}
 use Prim.Native.Nat.{_-_}
 use borrow.Author.Needs.{needs}
