@@ -10,6 +10,7 @@ use lib.Dec.{ltb}
 use borrow.Author.Tests.{lt-ltb, le-ltb, ltb-false, not-true, not-false}
 use Rattle.text.specs.Bytes.{allWithin}
 use Rattle.text.specs.Reading.{Reading, read, refused, mapped}
+use Rattle.text.proofs.Tests.{never}
 use Rattle.at_command.specs.WriterSteps.{Lays, refusalOf}
 use Rattle.at_command.specs.Request.{Asked, commandOf, Text, upTo, textsOf, anyLong, anyUnfit, fitting, LeavesWritten, Writes}
 
@@ -90,8 +91,8 @@ module _ (t u : List ℕ) (n m : ℕ) where
       where
         go : (a b : Bool) → (a ≡ false → length t ≤ n) → (b ≡ false → length u ≤ m) → a || (b || false) ≡ false → (length t ≤ n) × (length u ≤ m)
         go false false f g e = (f refl, g refl)
-        go false true f g e = absurd (let z : _≡_ {A = ℕ} 0 1 = cc in omega arith)
-        go true b f g e = absurd (let z : _≡_ {A = ℕ} 0 1 = cc in omega arith)
+        go false true f g e = never (cc)
+        go true b f g e = never (cc)
 
     pub first-limited : length t ≤ n
     first-limited = both-limited .0

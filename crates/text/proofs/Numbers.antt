@@ -19,6 +19,7 @@ use Rattle.text.specs.Bytes.{bytes, startsWith}
 use Rattle.text.specs.Number.{digitsOf, valueOf, worth, magnitude, unsigned, negative, signed}
 use Rattle.text.specs.says.Number.{saysU8, saysU16, saysU32, saysU64, saysI32}
 use Rattle.text.specs.Reading.{Reading, refused, need}
+use Rattle.text.proofs.Tests.{never}
 use Rattle.text.proofs.Readings.{need-so, got, lacked, via}
 use Rattle.text.specs.declared.number.ParsedU8.{ParsedU8}
 use Rattle.text.specs.declared.number.ParsedU8.the-variants.{Is as IsU8, Not as NotU8}
@@ -34,11 +35,11 @@ use Rattle.text.specs.declared.number.ParsedI32.the-variants.{Is as IsI3
 -- a number that was read is at most its bound
 up-le : (max n m : ℕ) (t : Bool) → (t ≡ true → m ≤ max) → cond t (some m) none ≡ some n → n ≤ max
 up-le max n m true h e = let z : m ≡ n = cc in let k : m ≤ max = h refl in omega arith
-up-le max n m false h e = let z : _≡_ {A = ℕ} 0 1 = cc in absurd (omega arith)
+up-le max n m false h e = never (cc)
 
 worth-le : (base max n : ℕ) (o : Option (List ℕ)) → worth base max o ≡ some n → n ≤ max
-worth-le base max n none e = let z : _≡_ {A = ℕ} 0 1 = cc in absurd (omega arith)
-worth-le base max n (some []) e = let z : _≡_ {A = ℕ} 0 1 = cc in absurd (omega arith)
+worth-le base max n none e = never (cc)
+worth-le base max n (some []) e = never (cc)
 worth-le base max n (some (d ∷ ds)) e = up-le max n (valueOf base (d ∷ ds)) (leb (valueOf base (d ∷ ds)) max) (leb-true _ _) e
 
 pub magnitude-le : (base max n : ℕ) (s : List ℕ) → magnitude base max s ≡ some n → n ≤ max
@@ -60,14 +61,14 @@ negative-fits w (suc k) b = record { sfits = b }
 
 module _ (w : Width) (max : ℕ) (z : ℤ) (b : max < 2 ^ hbits w) where
   below-fits : (o : Option ℕ) → ((n : ℕ) → o ≡ some n → n ≤ max + 1) → Option·map negative o ≡ some z → SFits w z
-  below-fits none f e = let i : _≡_ {A = ℕ} 0 1 = cc in absurd (omega arith)
+  below-fits none f e = never (cc)
   below-fits (some m) f e =
       let i : negative m ≡ z = cc in
       let j : m ≤ max + 1 = f m refl in
       rw i at (negative-fits w m (omega arith))
 
   above-fits : (o : Option ℕ) → ((n : ℕ) → o ≡ some n → n ≤ max) → Option·map pos o ≡ some z → SFits w z
-  above-fits none f e = let i : _≡_ {A = ℕ} 0 1 = cc in absurd (omega arith)
+  above-fits none f e = never (cc)
   above-fits (some m) f e =
       let i : pos m ≡ z = cc in
       let j : SFits w (pos m) = record { sfits = lt-of-le-of-lt (f m refl) b } in

@@ -160,15 +160,25 @@ via f q t s e h = e ∙ ap f h
 pub ruleset reader =
     (only-so, only-not, either-so, either-not, unless-so, unless-not, otherwise-so, otherwise-not, either-is, either-else, only-is, only-else, only-least, only-under, sized-so, sized-low, sized-high, fits, too-long, same-via, has-via, before-via, after-via, count-via, field-via, trim-via)
 
--- readers in order of trial: what the next one says decides
-module _ {A B : Type 0} (j : ℕ) (g : A → B) (x : Reading A) (rs : List (Reading B)) where
-  pub first-read : (a : A) → read a ≡ x → read (g a) ≡ firstOf j (mapped g x ∷ rs)
-  unfolding firstOf mapped
-  first-read a e = rw (sym e)
+-- a reading under another name
+module _ {A B : Type 0} (g : A → B) (x : Reading A) where
+  pub mapped-read : (a : A) → read a ≡ x → read (g a) ≡ mapped g x
+  unfolding mapped
+  mapped-read a e = rw (sym e)
 
-  pub first-not : (k i : ℕ) (q : Reading B) → refused k ≡ x → i ≡ worse j k → q ≡ firstOf i rs → q ≡ firstOf j (mapped g x ∷ rs)
-  unfolding firstOf mapped
-  first-not k i q e w h = rw (sym e, ← w) h
+  pub mapped-refused : (k : ℕ) → refused k ≡ x → refused k ≡ mapped g x
+  unfolding mapped
+  mapped-refused k e = rw (sym e)
+
+-- readers in order of trial: what the next one says decides
+module _ {A : Type 0} (j : ℕ) (x : Reading A) (rs : List (Reading A)) where
+  pub first-is : (a : A) → read a ≡ x → read a ≡ firstOf j (x ∷ rs)
+  unfolding firstOf
+  first-is a e = rw (sym e)
+
+  pub first-else : (k i : ℕ) (q : Reading A) → refused k ≡ x → i ≡ worse j k → q ≡ firstOf i rs → q ≡ firstOf j (x ∷ rs)
+  unfolding firstOf
+  first-else k i q e w h = rw (sym e, ← w) h
 
 pub first-none : {B : Type 0} (j : ℕ) → _≡_ {A = Reading B} (refused j) (firstOf j [])
 unfolding firstOf
@@ -186,9 +196,9 @@ module _ {R A B : Type 0} (f : R → Reading A) where
   module _ {W : Type 0} (con : W → R) (val : W → A) (is : (v : W) → f (con v) ≡ read (val v)) where
     pub tried : (j : ℕ) (g : A → B) (x : Reading A) (rs : List (Reading B)) (r : R) (v : W) (q : Reading B)
         → f r ≡ x → r ≡ con v → q ≡ read (g (val v)) → q ≡ firstOf j (mapped g x ∷ rs)
-    tried j g x rs r v q h e z = z ∙ first-read j g x rs (val v) (sym (is v) ∙ ap f (sym e) ∙ h)
+    tried j g x rs r v q h e z = z ∙ first-is j (mapped g x) rs (g (val v)) (mapped-read g x (val v) (sym (is v) ∙ ap f (sym e) ∙ h))
 
   module _ (con : ℕ → R) (is : (k : ℕ) → f (con k) ≡ refused k) where
     pub tried-not : (j : ℕ) (g : A → B) (x : Reading A) (rs : List (Reading B)) (r : R) (k i : ℕ) (q : Reading B)
         → f r ≡ x → r ≡ con k → i ≡ worse j k → q ≡ firstOf i rs → q ≡ firstOf j (mapped g x ∷ rs)
-    tried-not j g x rs r k i q h e w z = first-not j g x rs k i q (sym (is k) ∙ ap f (sym e) ∙ h) w z
+    tried-not j g x rs r k i q h e w z = first-else j (mapped g x) rs k i q (mapped-refused g x k (sym (is k) ∙ ap f (sym e) ∙ h)) w z

@@ -15,8 +15,10 @@ use lib.ListN.{drop}
 use Rattle.text.specs.Bytes.{bytes, startsWith, has}
 use Rattle.text.specs.Part.{before, after}
 use Rattle.text.specs.Number.{unsigned}
-use Rattle.text.specs.Line.{lineCheck, checked}
-use Rattle.text.specs.Reading.{Reading, read, refused, only, need}
+use Rattle.text.specs.Line.{checked}
+use Rattle.text.specs.Reading.{read}
+use Rattle.text.proofs.Tests.{never}
+use Rattle.text.proofs.Yields.{Yields, yields-read, yields-only, yields-need, yields-checked}
 use Rattle.text.proofs.Below.{everyBelow, below, eqz, eqz→eq}
 use Rattle.at_command.specs.Csq.{dbmOf, strengthOf, qualityOf, levelOf, Signal, csqCodes, csqRest, csqText, Percent, Less, Strength}
 use Rattle.at_command.proofs.csq.Laws.{each}
@@ -115,54 +117,31 @@ rises i j l h =
       less = ltb→lt (top x * bottom y) (top y * bottom x) (all-under i j l h);
     }
 
--- a property of all that is read
-module _ {A : Type 0} (Q : A → Type 0) where
-  abbrev Holds : Reading A → Type 0
-  Holds (read a) = Q a
-  Holds (refused k) = Unit
-
-  only-holds : (t : Bool) (r : Reading A) → Holds r → Holds (only t r)
-  unfolding only
-  only-holds true r h = h
-  only-holds false r h = tt
-
-  need-holds : {B : Type 0} (o : Option B) (f : B → Reading A) → ((b : B) → o ≡ some b → Holds (f b)) → Holds (need o f)
-  unfolding need
-  need-holds none f h = tt
-  need-holds (some b) f h = h b refl
-
-  checked-holds : (reader : List ℕ → Reading A) (s : List ℕ) → Holds (reader s) → Holds (checked reader s)
-  unfolding checked
-  checked-holds reader s = go (eqb (lineCheck s) 0)
-    where
-      go : (t : Bool) → Holds (reader s) → Holds (cond t (reader s) (refused (lineCheck s)))
-      go true h = h
-      go false h = tt
-
 level : (max : ℕ) (f : ℕ → Float) (n : ℕ) (x : Float) → levelOf max f n ≡ some (some x) → (n ≤ max) × (x ≡ f n)
 unfolding levelOf
 level max f n x = go (leb n max) (leb-true n max) (eqb n 99)
   where
     go : (t : Bool) → (t ≡ true → n ≤ max) → (u : Bool) → cond t (some (some (f n))) (cond u (some none) none) ≡ some (some x) → (n ≤ max) × (x ≡ f n)
     go true h u e = (h refl, cc)
-    go false h true e = let z : _≡_ {A = ℕ} 0 1 = cc in absurd (omega arith)
-    go false h false e = let z : _≡_ {A = ℕ} 0 1 = cc in absurd (omega arith)
+    go false h true e = never (cc)
+    go false h false e = never (cc)
 
 abbrev Known : Signal → Type 0
 Known g = (x : Float) → g .strength ≡ some x → Strength x
 
-known : (s : List ℕ) → Holds Known (csqText s)
-unfolding csqText csqRest csqCodes
-known s =
-    only-holds Known (startsWith (bytes "+CSQ: ") s) _
-    (only-holds Known (has 44 (drop 6 s)) _
-    (need-holds Known (unsigned 10 255 (before 44 (drop 6 s))) _ (λ r i.
-    need-holds Known (unsigned 10 255 (after 44 (drop 6 s))) _ (λ b j.
-    need-holds Known (levelOf 31 strengthOf r) _ (λ l e.
-    need-holds Known (levelOf 7 qualityOf b) _ (λ q k x z.
-    let v : (r ≤ 31) × (x ≡ strengthOf r) = level 31 strengthOf r x (rw z at e) in
-    record { rssi = r; most = v .0; is = v .1; percent = rw (v .1) (percent r (v .0)) }))))))
+module _ (s : List ℕ) where
+  known : Yields Known (λ (k : ℕ). Unit {0}) (csqText s)
+  unfolding csqText csqRest csqCodes
+  known =
+      yields-only Known _ (startsWith (bytes "+CSQ: ") s) _ tt (λ front.
+      yields-only Known _ (has 44 (drop 6 s)) _ tt (λ two.
+      yields-need Known _ (unsigned 10 255 (before 44 (drop 6 s))) _ tt (λ r i.
+      yields-need Known _ (unsigned 10 255 (after 44 (drop 6 s))) _ tt (λ b j.
+      yields-need Known _ (levelOf 31 strengthOf r) _ tt (λ l e.
+      yields-need Known _ (levelOf 7 qualityOf b) _ tt (λ q k x z.
+      let v : (r ≤ 31) × (x ≡ strengthOf r) = level 31 strengthOf r x (rw z at e) in
+      record { rssi = r; most = v .0; is = v .1; percent = rw (v .1) (percent r (v .0)) }))))))
 
--- what `from_line` answers
-pub strength-read : (s : List ℕ) (g : Signal) (x : Float) → checked csqText s ≡ read g → g .strength ≡ some x → Strength x
-strength-read s g x e = (rw e at (checked-holds Known csqText s (known s))) x
+  -- what `from_line` answers
+  pub strength-read : (g : Signal) (x : Float) → checked csqText s ≡ read g → g .strength ≡ some x → Strength x
+  strength-read g x e = yields-read Known (λ (k : ℕ). Unit {0}) (checked csqText s) g (yields-checked Known _ csqText s (λ n. tt) known) e x

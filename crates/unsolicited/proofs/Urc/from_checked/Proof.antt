@@ -5,24 +5,25 @@ use Rattle.unsolicited.proofs.Urc.from_checked.Tie as tie
 use mathlib.Core.Path.{_∙_}
 use Rattle.text.proofs.Yields.{yields-mapped}
 use Rattle.unsolicited.specs.Urc.{gnss, registration}
-use Rattle.unsolicited.proofs.Trials.{mapped-read, mapped-refused, first-is, first-else, first-last}
+use Rattle.text.proofs.Readings.{mapped-read, mapped-refused, first-is}
+use Rattle.unsolicited.proofs.Trials.{plain-else, plain-last}
 use Rattle.unsolicited.proofs.Reports.{plain-ugnsinf}
 use Rattle.unsolicited.proofs.Registrations.{plain-registration}
 use Rattle.unsolicited.proofs.Prefixes.{urc-nested}
 
 returns : tie.Need-returns
-returns c = first-is _ _ _ (mapped-read gnss _ _ (rw (c .before .report .given .1) at (c .before .before .before .from-checked .ensures))) ∙ urc-nested _
+returns c = first-is 3 _ _ _ (mapped-read gnss _ _ (rw (c .before .report .given .1) at (c .before .before .before .from-checked .ensures))) ∙ urc-nested _
 
 returns-2 : tie.Need-returns-2
 returns-2 c = let m = c .before .before .before in
-    first-else _ (yields-mapped _ _ gnss _ (plain-ugnsinf _)) _ _ _ (mapped-refused gnss _ _ (rw (m .before .enum-told .given .1) at (m .before .before .before .from-checked .ensures)))
-    (first-is _ _ _ (mapped-read registration _ _ (rw (c .before .registration .given .1) at (m .from-checked2 .ensures))))
+    plain-else _ (yields-mapped _ _ gnss _ (plain-ugnsinf _)) _ _ _ (mapped-refused gnss _ _ (rw (m .before .enum-told .given .1) at (m .before .before .before .from-checked .ensures)))
+    (first-is 3 _ _ _ (mapped-read registration _ _ (rw (c .before .registration .given .1) at (m .from-checked2 .ensures))))
     ∙ urc-nested _
 
 returns-3 : tie.Need-returns-3
 returns-3 c = let m = c .before .before .before in
-    first-else _ (yields-mapped _ _ gnss _ (plain-ugnsinf _)) _ _ _ (mapped-refused gnss _ _ (rw (m .before .enum-told .given .1) at (m .before .before .before .from-checked .ensures)))
-    (mapped-refused registration _ _ (rw (c .before .k .given .1) at (m .from-checked2 .ensures)) ∙ first-last _ (yields-mapped _ _ registration _ (plain-registration _)))
+    plain-else _ (yields-mapped _ _ gnss _ (plain-ugnsinf _)) _ _ _ (mapped-refused gnss _ _ (rw (m .before .enum-told .given .1) at (m .before .before .before .from-checked .ensures)))
+    (mapped-refused registration _ _ (rw (c .before .k .given .1) at (m .from-checked2 .ensures)) ∙ plain-last _ (yields-mapped _ _ registration _ (plain-registration _)))
     ∙ urc-nested _
 
 pub from-checked-spec : {M : Type 1} → statement M

@@ -3,26 +3,27 @@ use borrow.Author.Needs.{needs}
 use Rattle.unsolicited.proofs.network_registration.NetworkRegistration.from_checked.Statement.{statement}
 use Rattle.unsolicited.proofs.network_registration.NetworkRegistration.from_checked.Tie as tie
 use Rattle.unsolicited.specs.Registration.{registrationText}
-use Rattle.unsolicited.proofs.Trials.{first-is, first-else, first-last}
+use Rattle.text.proofs.Readings.{first-is}
+use Rattle.unsolicited.proofs.Trials.{plain-else, plain-last}
 use Rattle.unsolicited.proofs.Registrations.{plain-creg, plain-cgreg, plain-cereg}
 use mathlib.Core.Path.{_∙_}
 
 returns : tie.Need-returns
 unfolding registrationText
-returns c = first-is _ _ _ (rw (c .before .value .given .1) at (c .before .before .before .from-checked .ensures))
+returns c = first-is 3 _ _ _ (rw (c .before .value .given .1) at (c .before .before .before .from-checked .ensures))
 
 returns-2 : tie.Need-returns-2
 unfolding registrationText
 returns-2 c = let m = c .before .before .before in
-    first-else _ (plain-creg _) _ _ _ (rw (m .before .enum-told .given .1) at (m .before .before .before .from-checked .ensures))
-    (first-is _ _ _ (rw (c .before .value2 .given .1) at (m .from-checked2 .ensures)))
+    plain-else _ (plain-creg _) _ _ _ (rw (m .before .enum-told .given .1) at (m .before .before .before .from-checked .ensures))
+    (first-is 3 _ _ _ (rw (c .before .value2 .given .1) at (m .from-checked2 .ensures)))
 
 returns-3 : tie.Need-returns-3
 unfolding registrationText
 returns-3 c = let m = c .before .before .before in
-    first-else _ (plain-creg _) _ _ _ (rw (m .before .enum-told .given .1) at (m .before .before .before .from-checked .ensures))
-    (first-else _ (plain-cgreg _) _ _ _ (rw (c .before .enum-told2 .given .1) at (m .from-checked2 .ensures))
-    (c .from-checked3 .ensures ∙ first-last _ (plain-cereg _)))
+    plain-else _ (plain-creg _) _ _ _ (rw (m .before .enum-told .given .1) at (m .before .before .before .from-checked .ensures))
+    (plain-else _ (plain-cgreg _) _ _ _ (rw (c .before .enum-told2 .given .1) at (m .from-checked2 .ensures))
+    (c .from-checked3 .ensures ∙ plain-last _ (plain-cereg _)))
 
 pub from-checked-spec : {M : Type 1} → statement M
 from-checked-spec =
