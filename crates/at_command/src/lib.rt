@@ -1,4 +1,4 @@
-// The modem's commands and the responses to them, a module for each file of the Rust's at_command; what that names at its root is named here.
+// The modem's commands and the responses to them, a module for each file of the Rust's at_command; of what is ported, what that names at its root is named here.
 pub use ccid::Iccid;
 use ccid::IccidAnswer;
 pub use ccid::ShowIccid;
