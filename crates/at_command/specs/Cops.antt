@@ -42,6 +42,7 @@ pub record Operator : Type 0 where
   pub format : ℕ
   pub name : Name
 
+-- what stands behind a third comma is not read
 unfoldable pub copsFields : List ℕ → List ℕ → List (List ℕ) → Reading Operator
 copsFields formatFallback nameFallback fs =
     need (codeIn operatorModes (nth 0 fs)) (λ m.

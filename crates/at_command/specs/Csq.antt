@@ -14,7 +14,7 @@ use Rattle.text.specs.Part.{before, after}
 use Rattle.text.specs.Number.{unsigned, negative}
 use Rattle.text.specs.Reading.{Reading, read, only, need}
 
--- the power in dBm at an rssi of 0 to 31
+-- the power in dBm at an rssi of 0 to 31: document 01's figures and the Rust's, which are not the standard's (docs/DIFFERENCES.md, D18)
 unfoldable pub dbmOf : ℕ → ℤ
 dbmOf r = cond (eqb r 0) (negative 115) (cond (eqb r 1) (negative 111) (negative 110 +ℤ pos (2 * (r - 2))))
 
@@ -64,7 +64,7 @@ unfoldable pub csqText : List ℕ → Reading Signal
 csqText s = only (startsWith (bytes "+CSQ: ") s) (csqRest (drop 6 s))
 
 -- Proved of the strengths besides, over whole numbers, in proofs/csq/Percentage.antt: each at an rssi of 0 to 31 is a `Percent`, that at a lower rssi is
--- `Less` than that at a higher one, and a line is read with no other `Strength`.
+-- `Less` than that at a higher one, and every strength that a line is read with is a `Strength`.
 
 -- x is n / d, lies from 0 to 100, and is at most 1 / 100000 above or below the exact percentage, 100 * over / 63 where over is dBm + 115
 pub record Percent (rssi : ℕ) (x : Float) : Type 0 where

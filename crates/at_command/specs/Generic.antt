@@ -1,4 +1,5 @@
--- The final lines (document 01, "Final lines"; generic_response.rs): result codes of V.250, 5.7, and the error codes of TS 27.007, 9.1, and TS 27.005, 3.2.5.
+-- The final lines (document 01, "Final lines"; generic_response.rs): OK and ERROR are result codes of V.250, 5.7, +CME ERROR is
+-- TS 27.007's, 9.2, +CMS ERROR and the prompt are TS 27.005's, 3.2.5 and 3.5.1, SHUT OK and CLOSE OK the modem's own.
 use Prim.Native.Nat.{ℕ, _-_}
 use mathlib.Core.List.{List}
 use lib.ListN.{length, drop}

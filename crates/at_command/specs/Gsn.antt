@@ -12,7 +12,7 @@ use Rattle.text.specs.Reading.{Reading, read, only, sized}
 abbrev pub doubled : ℕ → ℕ
 doubled d = 2 * d / 10 + 2 * d % 10
 
--- the sum over the digits from place i on, counted from 0, with every second one doubled: `odd` says whether the first of these stands at an odd place
+-- the sum over the digits, those at odd places doubled, the places counted from 0: `odd` says whether the first of these stands at an odd one
 abbrev pub luhn : Bool → List ℕ → ℕ
 luhn odd [] = 0
 luhn odd (x ∷ s) = cond odd (doubled (x - 48)) (x - 48) + luhn (not odd) s

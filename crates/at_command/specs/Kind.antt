@@ -18,7 +18,7 @@ pub data Kind : Type 0 where
   smsMessageFormat : Kind
   smsMessage : Kind
 
--- how many kinds are tried before this one
+-- the place of a kind, counted from 0, in the order in which specs/Response.antt: readings lists its reader
 abbrev pub placeOf : Kind → ℕ
 placeOf genericOk = 0
 placeOf simError = 1
@@ -34,7 +34,7 @@ placeOf imei = 10
 placeOf smsMessageFormat = 11
 placeOf smsMessage = 12
 
--- and the kind at a place
+-- and the kind at a place; past the last, the last
 abbrev pub kinds : List Kind
 kinds =
     genericOk

@@ -7,6 +7,7 @@ use mathlib.Core.Option.{Option, none, some}
 use lib.ListN.{length, take, drop, replicate}
 use lib.Dec.{ltb, eqb}
 use Rattle.text.specs.Reading.{Reading, read, refused}
+use Rattle.at_command.specs.Request.{written}
 use Rattle.desk.specs.Cut.{View, dropping, held, bare, long, cutOne}
 use Rattle.trial.specs.Sort.{lineSort}
 use Rattle.desk.specs.Machine.{Machine, Stop, after, feed, Judging, judged}
@@ -28,7 +29,7 @@ abbrev pub lenOf : View → ℕ
 lenOf dropping = 258
 lenOf (held h) = length h
 
--- a byte that is held is laid behind those before it; nothing else in the buffer changes
+-- every byte of a line but its LF is laid behind those before it, up to the line's length; nothing else in the buffer changes
 abbrev pub laidBytes : View → List ℕ → ℕ → List ℕ
 laidBytes dropping s b = s
 laidBytes (held h) s b = cond (eqb b 10 || long (bare (h ++ b ∷ []))) s (h ++ b ∷ drop (length h + 1) s)
@@ -104,7 +105,7 @@ isClear (held (b ∷ bs)) = false
 
 -- 8 while a command is open, 9 while an unfinished line is held or being dropped, else what the writer says
 abbrev pub allowed : State → Reading (List ℕ) → Reading (List ℕ)
-allowed s written = cond (isOpen (s .command)) (refused 8) (cond (isClear (viewOf (s .wire))) written (refused 9))
+allowed s w = cond (isOpen (s .command)) (refused 8) (cond (isClear (viewOf (s .wire))) w (refused 9))
 
 pub record Opened : Type 0 where
   pub state : State
@@ -112,10 +113,9 @@ pub record Opened : Type 0 where
   pub out : List ℕ
 
 abbrev pub openedWith : State → Command → Reading (List ℕ) → List ℕ → Opened
-openedWith s c (read written) out =
-    record { state = record { wire = s .wire; command = c }; answer = read (length written); out = written ++ drop (length written) out }
+openedWith s c (read w) out = record { state = record { wire = s .wire; command = c }; answer = read (length w); out = written (read w) out }
 openedWith s c (refused k) out = record { state = s; answer = refused k; out = out }
 
 -- an open of this command, for which the writer gives these bytes or a refusal
 unfoldable pub opened : State → Command → Reading (List ℕ) → List ℕ → Opened
-opened s c written out = openedWith s c (allowed s written) out
+opened s c w out = openedWith s c (allowed s w) out

@@ -1,4 +1,4 @@
--- What the inner functions of a feed say: a search from a tray, bytes laid in it, bytes with no LF among them, and what is made of a line.
+-- What the private functions of a feed say: a search from a tray, bytes laid in it, bytes with no LF among them, and what is made of a line.
 use Prim.Native.Nat.{ℕ, _+_, _-_, _≤_, _<_}
 use mathlib.Core.Path.{_≡_}
 use mathlib.Core.Bool.{Bool, true, false}

@@ -1,4 +1,5 @@
--- The same by a grammar, with nothing computed: which texts are numerals, and the exact decimal that each says.
+-- The desk numerals (document 01, "Numbers in a line") as a grammar beside `decimalOf`: which texts are numerals, and the exact decimal that each says.
+-- proofs/NumeralGrammar.antt proves them one.
 use Prim.Native.Nat.{ℕ, _≤_}
 use mathlib.Core.Path.{_≡_}
 use mathlib.Core.Bool.{Bool, true, false}

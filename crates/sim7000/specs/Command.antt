@@ -1,4 +1,4 @@
--- The requests by number, and what a call that writes a command leaves (document 01, "Refusal numbers").
+-- The requests by number, and what a call that writes a command leaves (document 01, "Refusal numbers"; of a number that is no request, docs/DECISIONS.md 27).
 use Prim.Native.Nat.{ℕ}
 use mathlib.Core.Path.{_≡_}
 use mathlib.Core.Bool.{cond}
@@ -55,7 +55,8 @@ abbrev pub writeLeaves : Reading (List ℕ) → List ℕ → ℕ → WriteLeft
 writeLeaves (read command) out size = writeLeft 0 (written (read command) out) (length command)
 writeLeaves (refused k) out size = writeLeft k out size
 
--- 3 where there is no such request, else what its writer says; a refusal leaves both as they were
+-- 3 where there is no such request, before all else: document 01, whose requests are types, has no number for it; else what the writer says. A refusal
+-- leaves both as they were.
 unfoldable pub writes : Option Asked → List ℕ → ℕ → WriteLeft
 writes none out size = writeLeft 3 out size
 writes (some a) out size = writeLeaves (encodeReading a (length out)) out size
@@ -84,7 +85,7 @@ openLeaves (refused k) o state out size = openLeft k state out size
 abbrev pub openedOn : Asked → List ℕ → List ℕ → List ℕ → Opened
 openedOn a line state out = opened (deskIn line state) (awaiting (answersTo a)) (encodeReading a (length out)) out
 
--- 3 where there is no such request, else what the desk says; a refusal leaves all as it was
+-- 3 where there is no such request, before 8 and 9 too; else what the desk says. A refusal leaves all as it was.
 unfoldable pub opens : Option Asked → List ℕ → List ℕ → List ℕ → ℕ → OpenLeft
 opens none line state out size = openLeft 3 state out size
 opens (some a) line state out size = openLeaves (openedOn a line state out .answer) (openedOn a line state out) state out size

@@ -1,4 +1,4 @@
--- The desk in lent parts (document 01, "The desk (added)"): the 257 bytes of the line that is coming, and two numbers, `state`. The first number counts
+-- The desk in lent parts (document 01, "The desk (added)"; docs/DECISIONS.md 28): the 257 bytes of the line that is coming, and two numbers, `state`. The first number counts
 -- the bytes held, and above 257 the line is being dropped; the second is the command. Every number has a meaning, so no state is ill-formed, and
 -- zeros are a new desk.
 use Prim.Native.Nat.{ℕ, _+_, _-_, _*_, _/_, _%_}
@@ -14,14 +14,14 @@ use Rattle.desk.specs.Desk.{State, resetState, Heard, quiet, event, Fed, fed}
 
 -- ---- the command
 
--- the answers that a command still awaits: 0 is idle, 1 + k awaits kind k, 14 + 13 a + b awaits a, then b; any greater number is idle
+-- the answers that a command still awaits: 0 is idle, 1 + k awaits kind k, 14 + 13 a + b awaits a, then b; above 182 it is idle
 unfoldable pub awaitedIn : ℕ → List Kind
 awaitedIn n =
     cond (eqb n 0) []
     (cond (ltb n 14) (kindAt (n - 1) ∷ [])
     (cond (ltb n 183) (kindAt ((n - 14) / 13) ∷ kindAt ((n - 14) % 13) ∷ []) []))
 
--- the number that a call leaves
+-- the number that a call leaves; no request awaits more than two answers
 abbrev pub numberOf : List Kind → ℕ
 numberOf [] = 0
 numberOf (a ∷ []) = 1 + placeOf a

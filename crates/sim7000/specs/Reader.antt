@@ -1,4 +1,4 @@
--- The readers' numbers, by which `sim7000_sort_line` and `sim7000_read_line` name the reader that takes a line.
+-- The readers' numbers, by which `sim7000_sort_line` and `sim7000_read_line` name the reader that takes a line (docs/DECISIONS.md 26).
 use Prim.Native.Nat.{ℕ, _+_}
 use mathlib.Core.Path.{_≡_}
 use mathlib.Core.List.{List}
@@ -17,7 +17,7 @@ abbrev pub readerOf : Said → ℕ
 readerOf (response r) = placeOf (kindOf r) + 1
 readerOf (unsolicited u) = urcReader u
 
--- the reader that takes the line, or 128 and the refusal number
+-- the reader that takes the line, or 128 plus the refusal number
 abbrev pub sortNumber : Reading Said → ℕ
 sortNumber (read s) = readerOf s
 sortNumber (refused k) = 128 + k

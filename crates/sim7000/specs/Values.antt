@@ -1,4 +1,4 @@
--- The 20 numbers in which a line's values are handed over: the reader's number, its values, and zeros. A text is its start and its end in the line, a
+-- The 20 numbers in which a line's values are handed over (docs/DECISIONS.md 26): the reader's number, its values, and zeros. A text is its start and its end in the line, a
 -- float its 32 bits, and what may be missing 1 and its values, or 0 and zeros.
 use Prim.Native.Nat.{ℕ}
 use mathlib.Core.Path.{_≡_}
@@ -9,6 +9,7 @@ use lib.ListN.{take, replicate}
 use Rattle.text.specs.Part.{Span}
 use Rattle.text.specs.Reading.{Reading, read, refused}
 use Rattle.numeral.specs.Bits.{bitsOf}
+use Rattle.at_command.specs.Httptofs.{orZero}
 use Rattle.at_command.specs.Generic.{Fault, generic, cme, cms}
 use Rattle.at_command.specs.Cops.{Name, inLine, inFallback}
 use Rattle.at_command.specs.Response.{Response, ok, error, prompt, closeOk, iccid, signal, system, operator, time, download, imei, format, message}
@@ -23,10 +24,6 @@ use Rattle.sim7000.specs.Reader.{readerOf}
 abbrev pub there : {A : Type 0} → Option A → ℕ
 there none = 0
 there (some a) = 1
-
-abbrev pub numberOr0 : Option ℕ → ℕ
-numberOr0 none = 0
-numberOr0 (some n) = n
 
 abbrev pub bitsOr0 : Option Float → ℕ
 bitsOr0 none = 0
@@ -82,6 +79,7 @@ responseValues (message sender) = sender .start ∷ sender .end ∷ []
 abbrev pub dateValues : Date → List ℕ
 dateValues d = d .year ∷ d .month ∷ d .day ∷ d .hour ∷ d .minute ∷ d .second ∷ []
 
+-- in the order of the line's fields
 abbrev pub fixValues : Fix → List ℕ
 fixValues f =
     dateValues (f .dateTime)
@@ -102,12 +100,12 @@ fixValues f =
 -- 0 not enabled, 1 no fix, 2 a fix
 abbrev pub reportValues : Report → List ℕ
 reportValues notEnabled = 0 ∷ []
-reportValues (noFix inView) = 1 ∷ there inView ∷ numberOr0 inView ∷ []
+reportValues (noFix inView) = 1 ∷ there inView ∷ orZero inView ∷ []
 reportValues (fix f) = 2 ∷ fixValues f
 
 abbrev pub urcValues : Unsolicited → List ℕ
 urcValues (gnss r) = reportValues r
-urcValues (registration r) = r .status ∷ there (r .lac) ∷ numberOr0 (r .lac) ∷ there (r .ci) ∷ numberOr0 (r .ci) ∷ []
+urcValues (registration r) = r .status ∷ there (r .lac) ∷ orZero (r .lac) ∷ there (r .ci) ∷ orZero (r .ci) ∷ []
 
 -- ---- the line
 

@@ -9,7 +9,8 @@ ghost use mathlib.Core.Path.{_≡_};
 ghost use Rattle.text.specs.says.Number.{saysU16, saysU32};
 ghost use Rattle.at_command.specs.says.Cntp.{timeSays};
 ghost use Rattle.at_command.specs.says.Csq.{levelSays};
-ghost use Rattle.sim7000.specs.Values.{there, numberOr0, bitsOr0, startOr0, endOr0};
+ghost use Rattle.at_command.specs.Httptofs.{orZero};
+ghost use Rattle.sim7000.specs.Values.{there, bitsOr0, startOr0, endOr0};
 
 pub(crate) fn has_level(level: SignalLevel) -> u64
     ensures { λ r. ⌜ r ≡ there (levelSays level) ⌝ }
@@ -66,7 +67,7 @@ pub(crate) fn has_u16(n: ParsedU16) -> u64
 }
 
 pub(crate) fn u16_or_0(n: ParsedU16) -> u64
-    ensures { λ r. ⌜ r ≡ numberOr0 (saysU16 n) ⌝ }
+    ensures { λ r. ⌜ r ≡ orZero (saysU16 n) ⌝ }
 {
     match n {
         ParsedU16::Is(x) => x as u64,
@@ -84,7 +85,7 @@ pub(crate) fn has_u32(n: ParsedU32) -> u64
 }
 
 pub(crate) fn u32_or_0(n: ParsedU32) -> u64
-    ensures { λ r. ⌜ r ≡ numberOr0 (saysU32 n) ⌝ }
+    ensures { λ r. ⌜ r ≡ orZero (saysU32 n) ⌝ }
 {
     match n {
         ParsedU32::Is(x) => x as u64,

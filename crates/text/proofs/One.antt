@@ -9,7 +9,7 @@ use denote.Ref.{RefT, now}
 use Rattle.text.specs.Copy.{LayKeeps}
 use Rattle.text.specs.Gives.{Gives}
 use Rattle.text.specs.Part.{IsPart, partOf}
-use Rattle.text.specs.Handed.{Handed, lent, IsHanded, CutKeeps}
+use Rattle.text.specs.Handed.{Handed, lent, IsHanded}
 use Rattle.text.specs.Reader.{FieldStartsKeeps}
 use Rattle.text.specs.Reading.{Reading, read, refused}
 use Rattle.text.specs.Same.{SamePart, SameText}
@@ -67,7 +67,7 @@ one-at = one-answer atSays (λ (h : Handed). record { refusal = h .refusal; «in
 
 -- two texts that are handed out, and two answers that hand one out
 -- one answer: handed::cut
-pub one-handed : (line fallback t u : RefT (List ℕ)) (h : Handed) → CutKeeps line fallback h t → CutKeeps line fallback h u → SamePart t u
+pub one-handed : (line fallback t u : RefT (List ℕ)) (h : Handed) → IsHanded line fallback h t → IsHanded line fallback h u → SamePart t u
 unfolding IsHanded
 one-handed line fallback t u h p q = one-part (lent line fallback h) t u (h .span .start) (partOf (now (lent line fallback h)) (h .span .start) (h .span .end)) p q
 

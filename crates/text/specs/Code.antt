@@ -1,4 +1,4 @@
--- Codes that are matched as texts: "00" is not "0".
+-- Codes that are matched as texts: "00" is not "0" (document 01, "Numbers in a line").
 use Prim.Native.Nat.{ℕ, suc}
 use Prim.Native.String.{String}
 use mathlib.Core.Bool.{cond}

@@ -35,14 +35,11 @@ module _ {A : Type 0} where
 abbrev pub lent : RefT (List ℕ) → RefT (List ℕ) → Handed → RefT (List ℕ)
 lent line fallback h = cond (h .fallback) fallback line
 
--- t is that part, and no copy
+-- t is that part, and no copy: what a call answers that cuts it out
 unfoldable pub IsHanded : (line fallback : RefT (List ℕ)) → Handed → RefT (List ℕ) → Type 0
 IsHanded line fallback h t = IsPart (lent line fallback h) t (h .span .start) (partOf (now (lent line fallback h)) (h .span .start) (h .span .end))
 
--- what a call answers that cuts it out, and one that hands it out: the part, and the number
-abbrev pub CutKeeps : (line fallback : RefT (List ℕ)) → Handed → RefT (List ℕ) → Type 0
-CutKeeps line fallback h t = IsHanded line fallback h t
-
+-- and one that hands it out: the part, and the number
 pub record HandsOut (line fallback : RefT (List ℕ)) (h : Handed) (text : RefT (List ℕ)) (refusal : ℕ) : Type 0 where
   pub part : IsHanded line fallback h text
   pub number : refusal ≡ h .refusal

@@ -29,7 +29,7 @@ standsFrom at (suc n) s = nextAt s (standsFrom at n s)
 abbrev pub standsAt : ℕ → List ℕ → ℕ
 standsAt n s = standsFrom 0 n s
 
--- the places of a reader and of those behind it, 22 in all: those of 21 fields, and where a next one would begin
+-- the places of a reader and of those behind it, 22 in all: those of +UGNSINF's 21 fields, and where a next one would begin
 pub record Starts (s : List ℕ) (at : ℕ) (ps : List ℕ) : Type 0 where
   pub size : length ps ≡ 22
   pub place : (n : ℕ) → n < 22 → getD ps n 0 ≡ standsFrom at n s

@@ -49,12 +49,12 @@ module _ {A B : Type 0} where
   each f [] = []
   each f (r ∷ rs) = mapped f r ∷ each f rs
 
--- the refusal of readers tried one after the other: 4 where one said 4 (document 01, "Refusal numbers", 3)
+-- the refusal of readers tried one after the other: 4 where one said 4, else what the last said (document 01, "Refusal numbers", 3, 4 and the order 1, 2, 4, 3)
 abbrev pub worse : ℕ → ℕ → ℕ
 worse j k = cond (eqb j 4) 4 k
 
 module _ {A : Type 0} where
-  -- readers in order of trial: the first that accepts, else 4 where one said 4, else 3
+  -- readers in order of trial: the first that accepts, else 4 where one said 4, else 3, since a reader refuses with 3 or 4 (trial/proofs/Turns.antt: text-refuses)
   unfoldable pub firstOf : ℕ → List (Reading A) → Reading A
   firstOf j [] = refused j
   firstOf j (read a ∷ rs) = read a

@@ -1,4 +1,4 @@
--- Rust's `str::split_once`, by which the Rust takes a line's prefix: what stands before the first place where a text stands, and what behind it.
+-- Rust's `str::split_once`, by which the Rust takes the prefix of +CMGF, +CMGR, the registrations and +UGNSINF: what stands before the first place where a text stands, and what behind it.
 use Prim.Native.Nat.{ℕ, _+_}
 use mathlib.Core.Path.{_≡_}
 use mathlib.Core.Bool.{Bool, true, cond, not, _&&_}

@@ -1,7 +1,7 @@
 // Texts handed out of a line that is read anew: a part of the line and no copy, with the number of the refusal.
 use crate::part;
 use crate::part::Place;
-ghost use Rattle.text.specs.Handed.{nowhere, inLine, inFallback, CutKeeps};
+ghost use Rattle.text.specs.Handed.{nowhere, inLine, inFallback, IsHanded};
 ghost use Rattle.text.specs.says.Handed.{atSays, AtKeeps};
 ghost use Rattle.text.specs.says.Part.{placeSays};
 
@@ -55,7 +55,7 @@ pub fn in_fallback(place: Place) -> TextAt
 
 // The part of the line, or of the text lent for it.
 pub fn cut<'a>(at: TextAt, line: &'a [u8], fallback: &'a [u8]) -> &'a [u8]
-    ensures { λ r. ⌜ CutKeeps (line .entry) (fallback .entry) (atSays at) r ⌝ }
+    ensures { λ r. ⌜ IsHanded (line .entry) (fallback .entry) (atSays at) r ⌝ }
 {
     if at.in_fallback {
         return part::part(fallback, at.start, at.end);

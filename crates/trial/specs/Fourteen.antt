@@ -14,7 +14,7 @@ use Rattle.unsolicited.specs.Gnss.{notEnabled}
 use Rattle.unsolicited.specs.Urc.{gnss, registration}
 use Rattle.trial.specs.Answer.{Said, response, unsolicited}
 
--- a line and what it says, or its refusal: no reader that is tried accepts it; or a numeral and its f32
+-- a line with what it says, or with its refusal; or a numeral with its f32
 pub data Row : Type 0 where
   says : List ℕ → Reading Said → Row
   is : List ℕ → Float → Row

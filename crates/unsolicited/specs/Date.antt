@@ -24,7 +24,7 @@ yearOf t = unsigned 10 65535 (partOf t 0 4)
 unfoldable pub pairAt : ℕ → List ℕ → Option ℕ
 pairAt n t = unsigned 10 255 (partOf t n (n + 2))
 
--- the year and five pairs; what follows is ignored, and there is no calendar check. A cut inside a character makes it unreadable (proved: `date-cut`).
+-- the year and five pairs; what follows is ignored, and there is no calendar check. A cut inside a character makes it unreadable (proofs/DateCuts.antt: date-cut).
 unfoldable pub dateOf : List ℕ → Option Date
 dateOf t =
     cond (leb 14 (length t))

@@ -1,4 +1,4 @@
--- Where the fields of +UGNSINF begin, found once for all of them.
+-- Where the fields of +UGNSINF begin, found once for all of them; for private functions.
 use Prim.Native.Nat.{ℕ}
 use mathlib.Core.Path.{_≡_}
 use mathlib.Core.List.{List}

@@ -18,6 +18,6 @@ urcReadings s = mapped gnss (ugnsinfText s) ∷ each registration (registrationR
 unfoldable pub urcText : List ℕ → Reading Unsolicited
 urcText s = firstOf 3 (urcReadings s)
 
--- the line begins as one of these does; no other is accepted
+-- the line begins as one of these does: by this test `trial` chooses which trial to ask (trial/proofs/Turns.antt)
 unfoldable pub begins : List ℕ → Bool
 begins s = startsWith (bytes "+UGNSINF: ") s || (startsWith (bytes "+CREG: ") s || (startsWith (bytes "+CGREG: ") s || startsWith (bytes "+CEREG: ") s))

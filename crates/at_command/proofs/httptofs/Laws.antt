@@ -8,7 +8,7 @@ use Rattle.text.specs.Number.{unsigned}
 use Rattle.text.specs.Part.{before, after}
 use Rattle.text.specs.Reading.{read}
 use borrow.Author.Tests.{eq-eqb, ne-eqb}
-use Rattle.at_command.specs.says.Httptofs.{succeeded}
+use Rattle.at_command.specs.says.Httptofs.{failureOf}
 use Rattle.at_command.specs.Httptofs.{httpCodes, orZero, Download, downloadOf}
 
 pub or-is : (n : ℕ) (o : Option ℕ) → some n ≡ o → n ≡ orZero o
@@ -26,8 +26,8 @@ pub download-read : (d : Download) (t s : List ℕ) → d ≡ downloadOf t → t
 download-read d t s e h = rw (e, h)
 
 -- 200, and any other number, under the name k
-pub success-is : (k n : ℕ) → k ≡ n → k ≡ 200 → none ≡ succeeded n
+pub success-is : (k n : ℕ) → k ≡ n → k ≡ 200 → none ≡ failureOf n
 success-is k n e h = rw (eq-eqb n 200 (sym e ∙ h))
 
-pub success-not : (k n : ℕ) → k ≡ n → (k ≡ 200 → ⊥) → some n ≡ succeeded n
+pub success-not : (k n : ℕ) → k ≡ n → (k ≡ 200 → ⊥) → some n ≡ failureOf n
 success-not k n e h = rw (ne-eqb n 200 (λ q. h (e ∙ q)))

@@ -32,9 +32,9 @@ statusNumber StackBusy = 604
 statusNumber SslContinue = 620
 statusNumber OtherErrors = 0
 
--- 200 is a success; every other code is the error
-abbrev pub succeeded : ℕ → Option ℕ
-succeeded n = cond (eqb n 200) none (some n)
+-- the error that a code is (httptofs.rs, `success`); none is 200
+abbrev pub failureOf : ℕ → Option ℕ
+failureOf n = cond (eqb n 200) none (some n)
 
 abbrev pub successSays : Success → Option ℕ
 successSays S.Ok = none
@@ -53,4 +53,4 @@ DownloadInfoKeeps line r = says r ≡ checked httptofsText line
 
 -- and of `success`
 abbrev pub SuccessKeeps : StatusCode → Success → Type 0
-SuccessKeeps code r = successSays r ≡ succeeded (statusNumber code)
+SuccessKeeps code r = successSays r ≡ failureOf (statusNumber code)
