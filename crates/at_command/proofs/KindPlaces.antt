@@ -24,10 +24,6 @@ at-place imei = refl
 at-place smsMessageFormat = refl
 at-place smsMessage = refl
 
--- of one reading, and of those behind it
-pub then : {A B : Type 0} → A → B → A × B
-then a b = (a, b)
-
 -- what the reader at a place of the trial reads is of the kind at that place
 unfoldable pub InOrder : ℕ → List (Reading Response) → Type 0
 InOrder n [] = Unit {0}

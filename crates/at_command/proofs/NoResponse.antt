@@ -16,7 +16,7 @@ use Rattle.text.proofs.Begins.{begins-with, begins-same}
 use Rattle.text.proofs.Parts.{from-start}
 use Rattle.text.proofs.Tests.{never, not-some, and-left, and-right}
 use Rattle.text.proofs.Trims.{end-take}
-use Rattle.text.proofs.Yields.{Yields, yields-only, yields-sized, yields-either, yields-need, yields-first, yields-mapped}
+use Rattle.text.proofs.Yields.{Yields, then, yields-only, yields-sized, yields-either, yields-need, yields-first, yields-mapped}
 use Rattle.at_command.specs.Ccid.{cardText, iccidText}
 use Rattle.at_command.specs.Cmgf.{cmgfText}
 use Rattle.at_command.specs.Cmgr.{cmgrText}
@@ -28,7 +28,6 @@ use Rattle.at_command.specs.Generic.{okText, errorText, promptText, clos
 use Rattle.at_command.specs.Gsn.{imeiText}
 use Rattle.at_command.specs.Httptofs.{httptofsText}
 use Rattle.at_command.specs.Response.{Response, readings, responseText}
-use Rattle.at_command.proofs.KindPlaces.{then}
 
 -- the line begins with "+U", or with "+C" and one of these letters
 unfoldable pub reserved : List ℕ → Bool

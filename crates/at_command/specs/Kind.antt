@@ -18,7 +18,7 @@ pub data Kind : Type 0 where
   smsMessageFormat : Kind
   smsMessage : Kind
 
--- the place of a kind, counted from 0, in the order in which specs/Response.antt: readings lists its reader
+-- the place of a kind, counted from 0: that of its reader in the order of trial (specs/Response.antt: readings; proofs/KindPlaces.antt)
 abbrev pub placeOf : Kind → ℕ
 placeOf genericOk = 0
 placeOf simError = 1

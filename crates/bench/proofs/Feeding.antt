@@ -5,7 +5,7 @@ use mathlib.Core.List.{List, [], _∷_}
 use Rattle.text.specs.Reading.{read, refused}
 use Rattle.desk.specs.Desk.{quiet, event, Fed, fed}
 use Rattle.desk.specs.Judge.{Event}
-use Rattle.desk.proofs.Unchanged.{fed-stays}
+use Rattle.desk.proofs.Unchanged.{fed-same}
 use Rattle.bench.specs.Bench.{left, idle, feeds}
 
 module _ (line : List ℕ) (len : ℕ) (chunk text told : List ℕ) (f : Fed) (is : f ≡ fed (idle line len) chunk text) where
@@ -13,8 +13,7 @@ module _ (line : List ℕ) (len : ℕ) (chunk text told : List ℕ) (f : Fed) (i
   unfolding feeds
   fed-refused {k} e =
       let a : fed (idle line len) chunk text .answer ≡ refused k = ap (λ (x : Fed). x .answer) (sym is) ∙ e in
-      let same : f .text ≡ text = ap (λ (x : Fed). x .text) is ∙ ap (λ (x : Fed). x .text) (fed-stays (idle line len) chunk text a .0) in
-      rw (a, same)
+      rw (a, fed-same (idle line len) chunk text f is e .1)
 
   pub fed-quiet : {n : ℕ} → f .answer ≡ read (quiet n) → left 0 (f .state .wire .bytes) (f .state .wire .len) (f .text) (n ∷ 0 ∷ []) ≡ feeds line len chunk text told
   unfolding feeds

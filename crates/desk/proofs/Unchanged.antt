@@ -56,7 +56,7 @@ unfolding opened
 opened-stays s c w out e = with-stays s c (allowed s w) out e
 
 module _ (s : State) (chunk text : List ℕ) (f : Fed) (is : f ≡ fed s chunk text) {k : ℕ} (e : f .answer ≡ refused k) where
-  fed-same : (f .state ≡ s) × (f .text ≡ text)
+  pub fed-same : (f .state ≡ s) × (f .text ≡ text)
   fed-same = let same = fed-stays s chunk text (ap (λ (x : Fed). x .answer) (sym is) ∙ e) .0 in
       (ap (λ (x : Fed). x .state) (is ∙ same), ap (λ (x : Fed). x .text) (is ∙ same))
 
@@ -75,7 +75,7 @@ feed-on-refused line len command chunk text r line′ text′ kept e =
     (ap (λ (x : State). x .wire .bytes) (s .0), ap (λ (x : State). x .wire .len) (s .0), same-command (r .command) command (ap (λ (x : State). x .command) (s .0)), s .1)
 
 module _ (s : State) (c : Command) (w : Reading (List ℕ)) (out : List ℕ) (o : Opened) (is : o ≡ opened s c w out) {k : ℕ} (e : o .answer ≡ refused k) where
-  opened-same : (o .state ≡ s) × (o .out ≡ out)
+  pub opened-same : (o .state ≡ s) × (o .out ≡ out)
   opened-same = let same = opened-stays s c w out (ap (λ (x : Opened). x .answer) (sym is) ∙ e) in
       (ap (λ (x : Opened). x .state) is ∙ same .0, ap (λ (x : Opened). x .out) is ∙ same .1)
 

@@ -8,7 +8,7 @@ use Rattle.text.specs.Reading.{Reading, read, refused, mapped}
 use Rattle.at_command.specs.Request.{Asked, encodeReading, written}
 use Rattle.desk.specs.Desk.{Opened}
 use Rattle.text.proofs.Tests.{never}
-use Rattle.desk.proofs.Unchanged.{opened-stays}
+use Rattle.desk.proofs.Unchanged.{opened-same}
 use Rattle.sim7000.specs.Parts.{numbersOf}
 use Rattle.sim7000.specs.Command.{requests, askedBy, writeLeft, writeLeaves, writes, openLeft, openedOn, opens}
 
@@ -54,8 +54,7 @@ module _ (o : Option Asked) (line state out : List ℕ) (size : ℕ) where
     unfolding opens
     opens-refused {k} e =
         let f : openedOn a line state out .answer ≡ refused k = ap (λ (y : Opened). y .answer) (sym made) ∙ e in
-        let g : x .out ≡ out = ap (λ (y : Opened). y .out) made ∙ opened-stays _ _ _ out f .1 in
-        rw (sym is, f, g)
+        rw (sym is, f, opened-same _ _ _ out x made e .1)
 
     pub opens-size : {n : ℕ} → x .answer ≡ read n → openLeft 0 (numbersOf (x .state)) (x .out) n ≡ opens o line state out size
     unfolding opens

@@ -4,7 +4,7 @@ use mathlib.Core.Path.{_≡_, sym, ap, _∙_}
 use mathlib.Core.List.{List}
 use Rattle.text.specs.Reading.{read, refused}
 use Rattle.desk.specs.Desk.{Heard, Fed, fed}
-use Rattle.desk.proofs.Unchanged.{fed-stays}
+use Rattle.desk.proofs.Unchanged.{fed-same}
 use Rattle.sim7000.specs.Parts.{deskIn, numbersOf, toldOf, feedLeft, feeds}
 
 module _ (line state chunk text told : List ℕ) (f : Fed) (is : f ≡ fed (deskIn line state) chunk text) where
@@ -12,10 +12,8 @@ module _ (line state chunk text told : List ℕ) (f : Fed) (is : f ≡ fed (desk
   unfolding feeds
   feed-refused {k} e =
       let a : fed (deskIn line state) chunk text .answer ≡ refused k = ap (λ (x : Fed). x .answer) (sym is) ∙ e in
-      let stays = fed-stays (deskIn line state) chunk text a .0 in
-      let bytes : f .state .wire .bytes ≡ line = ap (λ (x : Fed). x .state .wire .bytes) (is ∙ stays) in
-      let same : f .text ≡ text = ap (λ (x : Fed). x .text) (is ∙ stays) in
-      rw (a, bytes, same)
+      let s = fed-same (deskIn line state) chunk text f is e in
+      rw (a, s .0, s .1)
 
   pub feed-heard : {h : Heard} → f .answer ≡ read h → feedLeft 0 (f .state .wire .bytes) (numbersOf (f .state)) (f .text) (toldOf h) ≡ feeds line state chunk text told
   unfolding feeds

@@ -1,6 +1,6 @@
 -- Where a byte stands in a line, and what it begins and ends with: one law for each turn and each exit of the loops that look for it. Assumes nothing.
-use mathlib.Core.Path.{_≡_, refl}
-use mathlib.Core.Bool.{Bool, true, false, _&&_}
+use mathlib.Core.Path.{_≡_, refl, sym}
+use mathlib.Core.Bool.{Bool, true, false, _&&_, and-false}
 use mathlib.Core.List.{List, [], _∷_}
 use Prim.Native.Nat.{ℕ, suc, _+_, _-_, _≤_, _<_}
 use native.Mathlib.Nat.{add-zero}
@@ -66,11 +66,7 @@ pub starts-long : (p t : List ℕ) → length t < length p → false ≡ startsW
 unfolding startsWith
 starts-long [] t h = absurd (omega arith)
 starts-long (b ∷ p) [] h = refl
-starts-long (b ∷ p) (x ∷ t) h = rw (← starts-long p t (omega arith)) (none (eqb x b))
-  where
-    none : (t : Bool) → false ≡ t && false
-    none true = refl
-    none false = refl
+starts-long (b ∷ p) (x ∷ t) h = rw (← starts-long p t (omega arith)) (sym (and-false (eqb x b)))
 
 pub starts-room : (p s : List ℕ) (at : ℕ) → at ≤ length s → length s - at < length p → false ≡ startsWith p (drop at s)
 starts-room p s at h k = starts-long p (drop at s) (omega (arith, length-drop at s))

@@ -180,6 +180,11 @@ module _ {A : Type 0} (j : ℕ) (x : Reading A) (rs : List (Reading A)) where
   unfolding firstOf
   first-else k i q e w h = rw (sym e, ← w) h
 
+pub first-last : {A : Type 0} (x : Reading A) → x ≡ firstOf 3 (x ∷ [])
+unfolding firstOf
+first-last (read a) = refl
+first-last (refused k) = refl
+
 pub first-none : {B : Type 0} (j : ℕ) → _≡_ {A = Reading B} (refused j) (firstOf j [])
 unfolding firstOf
 first-none j = refl

@@ -1,6 +1,6 @@
 -- Bytes that go at the ends of a line. Assumes nothing.
 use mathlib.Core.Path.{_≡_, refl, ap, sym, _∙_}
-use mathlib.Core.Bool.{Bool, true, false, cond, _||_}
+use mathlib.Core.Bool.{Bool, true, false, cond, _||_, or-self-left}
 use mathlib.Core.List.{List, [], _∷_, _++_}
 use Prim.Native.Nat.{ℕ, suc, _+_, _-_, _≤_, _<_}
 use native.Mathlib.Omega.{arith}
@@ -97,11 +97,7 @@ module _ (s : List ℕ) (b i : ℕ) (inv : leading (b ∷ []) s ≡ i + leading 
 -- `trim`: one byte given twice is one byte
 once : (b : ℕ) (s : List ℕ) → trimEnd (b ∷ b ∷ []) s ≡ trimEnd (b ∷ []) s
 once b [] = refl
-once b (x ∷ s) = rw (once b s) (ap (λ (t : Bool). keep t x (trimEnd (b ∷ []) s)) (go (eqb x b)))
-  where
-    go : (t : Bool) → t || (t || false) ≡ t || false
-    go true = refl
-    go false = refl
+once b (x ∷ s) = rw (once b s) (ap (λ (t : Bool). keep t x (trimEnd (b ∷ []) s)) (or-self-left (eqb x b) false))
 
 module _ (bs : List ℕ) where
   -- nothing is left where every byte goes, and only there

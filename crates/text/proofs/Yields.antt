@@ -21,6 +21,10 @@ abbrev pub AllYield : {A : Type 0} → (A → Type 0) → (ℕ → Type 0) → L
 AllYield Q R [] = Unit {0}
 AllYield Q R (x ∷ rs) = Yields Q R x × AllYield Q R rs
 
+-- of one, and of those behind it
+pub then : {A B : Type 0} → A → B → A × B
+then a b = (a, b)
+
 module _ {A : Type 0} (Q : A → Type 0) (R : ℕ → Type 0) where
   -- of a reading that is known
   pub yields-read : (x : Reading A) (a : A) → Yields Q R x → x ≡ read a → Q a

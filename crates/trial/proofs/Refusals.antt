@@ -2,7 +2,7 @@
 use Prim.Native.Nat.{ℕ}
 use mathlib.Core.List.{List}
 use Rattle.text.specs.Reading.{Reading}
-use Rattle.text.proofs.Yields.{Yields, AllYield, yields-only, yields-sized, yields-fitting, yields-either, yields-need, yields-mapped, yields-first}
+use Rattle.text.proofs.Yields.{Yields, AllYield, then, yields-only, yields-sized, yields-fitting, yields-either, yields-need, yields-mapped, yields-first}
 use Rattle.at_command.specs.Ccid.{cardText, iccidText}
 use Rattle.at_command.specs.Cmgf.{cmgfText}
 use Rattle.at_command.specs.Cmgr.{cmgrFields, cmgrText}
@@ -30,28 +30,21 @@ ruleset parts = (any, three, four, yields-only, yields-sized, yields-fitting, yi
 module _ (l : List ℕ) where
   all : AllYield (λ (r : Response). Unit {0}) Known (readings l)
   unfolding readings okText errorText promptText closeText iccidText cardText csqText csqRest csqCodes cpsiText cpsiFields copsText copsFields cntpText cntpRest httptofsText imeiText cmgfText cmgrText cmgrFields
-  all = (
-    search parts depth 9,
-    (
-      search parts depth 9,
-      (
-        search parts depth 9,
-        (
-          search parts depth 9,
-          (
-            search parts depth 9,
-            (
-              search parts depth 9,
-              (
-                search parts depth 9,
-                (search parts depth 9, (search parts depth 9, (search parts depth 9, (search parts depth 9, (search parts depth 9, (search parts depth 9, tt)))))),
-              ),
-            ),
-          ),
-        ),
-      ),
-    ),
-  )
+  all =
+      then (search parts depth 9)
+      (then (search parts depth 9)
+      (then (search parts depth 9)
+      (then (search parts depth 9)
+      (then (search parts depth 9)
+      (then (search parts depth 9)
+      (then (search parts depth 9)
+      (then (search parts depth 9)
+      (then (search parts depth 9)
+      (then (search parts depth 9)
+      (then (search parts depth 9)
+      (then (search parts depth 9)
+      (then (search parts depth 9)
+      tt))))))))))))
 
   pub responses-refuse : Refuses (responseText l)
   unfolding responseText

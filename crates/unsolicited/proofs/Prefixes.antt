@@ -5,7 +5,7 @@ use Prim.Native.Nat.{ℕ}
 use Rattle.text.specs.Bytes.{bytes, startsWith}
 use Rattle.text.specs.Reading.{Reading, read, refused, only, mapped, each, firstOf}
 use Rattle.text.proofs.Begins.{begins-with}
-use Rattle.text.proofs.Readings.{first-each}
+use Rattle.text.proofs.Readings.{first-each, first-last}
 use Rattle.text.proofs.Yields.{Yields, yields-only, yields-first, yields-mapped, yields-read}
 use Rattle.unsolicited.specs.Gnss.{Report, ugnsinfText}
 use Rattle.unsolicited.specs.Registration.{Registration, cregText, cgregText, ceregText, registrationReadings, registrationText}
@@ -51,10 +51,6 @@ pub urc-nested : (s : List ℕ) → firstOf 3 (mapped gnss (ugnsinfText s) ∷ m
 unfolding urcText urcReadings registrationText firstOf mapped
 urc-nested s = go (ugnsinfText s) (plain-ugnsinf s) (registrationReadings s)
   where
-    one : (r : Reading Unsolicited) → firstOf 3 (r ∷ []) ≡ r
-    one (read a) = refl
-    one (refused k) = refl
-
     go : (g : Reading Report) → Plain g → (rs : List (Reading Registration)) → firstOf 3 (mapped gnss g ∷ mapped registration (firstOf 3 rs) ∷ []) ≡ firstOf 3 (mapped gnss g ∷ each registration rs)
     go (read r) p rs = refl
-    go (refused k) p rs = rw p (one (mapped registration (firstOf 3 rs)) ∙ sym (first-each registration 3 rs))
+    go (refused k) p rs = rw p (sym (first-last (mapped registration (firstOf 3 rs))) ∙ sym (first-each registration 3 rs))

@@ -1,6 +1,6 @@
 -- The registration readers: the status by its number, which field it is, and that they refuse with 3 alone. Assumes nothing.
-use mathlib.Core.Path.{_≡_, refl, sym}
-use mathlib.Core.Bool.{Bool, true, false, cond, _&&_, _||_}
+use mathlib.Core.Path.{_≡_, refl, sym, ap}
+use mathlib.Core.Bool.{Bool, true, false, cond, _&&_, _||_, or-self-left}
 use mathlib.Core.List.{List, [], _∷_}
 use mathlib.Core.Option.{Option}
 use Prim.Native.Nat.{ℕ, _≤_, _<_, _-_}
@@ -39,12 +39,7 @@ status-other (pos n) a b c d e = go (leb 1 n) (leb n 5) (leb-true 1 n) (leb-true
 
 -- +CREG's longest has 5 fields
 five-twice : (n : ℕ) → among (2 ∷ 5 ∷ 5 ∷ []) n ≡ among (2 ∷ 5 ∷ []) n
-five-twice n = go (eqb n 2) (eqb n 5)
-  where
-    go : (a b : Bool) → a || (b || (b || false)) ≡ a || (b || false)
-    go true b = refl
-    go false true = refl
-    go false false = refl
+five-twice n = ap (λ (t : Bool). eqb n 2 || t) (or-self-left (eqb n 5) false)
 
 pub fields-five : (q : Reading Registration) (t s : List ℕ) → q ≡ registrationFields (2 ∷ 5 ∷ 5 ∷ []) (fields 44 t) → t ≡ s → q ≡ registrationFields (2 ∷ 5 ∷ []) (fields 44 s)
 unfolding registrationFields

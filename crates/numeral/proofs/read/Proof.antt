@@ -9,7 +9,6 @@ use lib.Ieee.{Float, binary32, round}
 use borrow.Author.Needs.{needs}
 use Rattle.numeral.specs.declared.Scanned.{Scanned}
 use Rattle.numeral.specs.declared.Scanned.the-variants.{Exact, Not}
-use Rattle.text.specs.Reading as R
 use Rattle.text.specs.Reading.{need}
 use Rattle.numeral.specs.Numeral.{decimalOf, floatOf, numeralText}
 use Rattle.numeral.specs.Nearest.{value, refused}

@@ -26,6 +26,7 @@ use denote.RattleType.{Denots, owns}
 use denote.Laws.{Is}
 use denote.Plain.{uint-vals, uint-tells, bool-lawful}
 use denote.Builtin.{u8}
+use denote.Floats.{is-true}
 use denote.Ref.{RefT, now}
 use denote.Signature.{typesAt}
 use denote.Slice.{sliceTy, sliceVal, slice-vals, shr-slice-tells, shr-slice-lawful}
@@ -84,10 +85,6 @@ turn = seq (assign (place 5 []) (op2 (lt unsigned) (copy (place 4 [])) (copy (pl
 abbrev after : Body
 after = seq (assign (place 9 []) (rvOpd (copy (place 3 [])))) (seq (call field-def.name (copy (place 9 []) ∷ []) (place 0 [])) return)
 
-so : (b : Bool) → T b → b ≡ true
-so true h = refl
-so false h = absurd h
-
 -- where the test is reached: k fields are passed, and the reader r, in memory as u, stands behind them
 record At (κ : Lft) (s : RefT (List ℕ)) (n : ℕ) : Type 0 where
   k : ℕ
@@ -119,7 +116,7 @@ module _ (κ : Lft) (s : RefT (List ℕ)) (n : ℕ) where
   passed : (a : At κ s n) (b : Bool) → Ended (κ, tt) (a .r, tt) b → T b → standsAt (a .k) (now s) ≡ standsAt n (now s)
   passed a b e past =
       stands-past (a .k) n (now s) (a .few)
-      (ap (endedAt (now s)) (sym (a .stands)) ∙ ap (λ (x : RefT (List ℕ)). endedAt (now x) (a .r .at)) (sym (a .on)) ∙ sym e ∙ so b past)
+      (ap (endedAt (now s)) (sym (a .stands)) ∙ ap (λ (x : RefT (List ℕ)). endedAt (now x) (a .r .at)) (sym (a .on)) ∙ sym e ∙ is-true b past)
 
   found : (a : At κ s n) → standsAt (a .k) (now s) ≡ standsAt n (now s) → (t : RefT (List ℕ)) → Field (κ, tt) (a .r, tt) t → Nth (κ, tt) (s, (n, tt)) t
   found a e t p =

@@ -5,10 +5,9 @@ use Rattle.unsolicited.proofs.Urc.from_checked.Tie as tie
 use mathlib.Core.Path.{_∙_}
 use Rattle.text.proofs.Yields.{yields-mapped}
 use Rattle.unsolicited.specs.Urc.{gnss, registration}
-use Rattle.text.proofs.Readings.{mapped-read, mapped-refused, first-is}
-use Rattle.unsolicited.proofs.Trials.{plain-else, plain-last}
+use Rattle.text.proofs.Readings.{mapped-read, mapped-refused, first-is, first-last}
+use Rattle.unsolicited.proofs.Trials.{plain-else}
 use Rattle.unsolicited.proofs.Reports.{plain-ugnsinf}
-use Rattle.unsolicited.proofs.Registrations.{plain-registration}
 use Rattle.unsolicited.proofs.Prefixes.{urc-nested}
 
 returns : tie.Need-returns
@@ -23,7 +22,7 @@ returns-2 c = let m = c .before .before .before in
 returns-3 : tie.Need-returns-3
 returns-3 c = let m = c .before .before .before in
     plain-else _ (yields-mapped _ _ gnss _ (plain-ugnsinf _)) _ _ _ (mapped-refused gnss _ _ (rw (m .before .enum-told .given .1) at (m .before .before .before .from-checked .ensures)))
-    (mapped-refused registration _ _ (rw (c .before .k .given .1) at (m .from-checked2 .ensures)) ∙ plain-last _ (yields-mapped _ _ registration _ (plain-registration _)))
+    (mapped-refused registration _ _ (rw (c .before .k .given .1) at (m .from-checked2 .ensures)) ∙ first-last _)
     ∙ urc-nested _
 
 pub from-checked-spec : {M : Type 1} → statement M

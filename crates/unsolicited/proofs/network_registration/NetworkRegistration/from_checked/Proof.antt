@@ -3,9 +3,9 @@ use borrow.Author.Needs.{needs}
 use Rattle.unsolicited.proofs.network_registration.NetworkRegistration.from_checked.Statement.{statement}
 use Rattle.unsolicited.proofs.network_registration.NetworkRegistration.from_checked.Tie as tie
 use Rattle.unsolicited.specs.Registration.{registrationText}
-use Rattle.text.proofs.Readings.{first-is}
-use Rattle.unsolicited.proofs.Trials.{plain-else, plain-last}
-use Rattle.unsolicited.proofs.Registrations.{plain-creg, plain-cgreg, plain-cereg}
+use Rattle.text.proofs.Readings.{first-is, first-last}
+use Rattle.unsolicited.proofs.Trials.{plain-else}
+use Rattle.unsolicited.proofs.Registrations.{plain-creg, plain-cgreg}
 use mathlib.Core.Path.{_∙_}
 
 returns : tie.Need-returns
@@ -23,7 +23,7 @@ unfolding registrationText
 returns-3 c = let m = c .before .before .before in
     plain-else _ (plain-creg _) _ _ _ (rw (m .before .enum-told .given .1) at (m .before .before .before .from-checked .ensures))
     (plain-else _ (plain-cgreg _) _ _ _ (rw (c .before .enum-told2 .given .1) at (m .from-checked2 .ensures))
-    (c .from-checked3 .ensures ∙ plain-last _ (plain-cereg _)))
+    (c .from-checked3 .ensures ∙ first-last _))
 
 pub from-checked-spec : {M : Type 1} → statement M
 from-checked-spec =
