@@ -1,4 +1,4 @@
--- A number written in decimal reads back as itself (document 01, "Numbers in a line"). Assumes nothing.
+-- A number written in decimal is all digits, and reads back as itself (document 01, "Numbers in a line"). Assumes nothing.
 use mathlib.Core.Path.{_≡_, refl, ap, sym, _∙_}
 use mathlib.Core.Bool.{Bool, true, false, cond, _&&_}
 use mathlib.Core.List.{List, [], _∷_, _++_}
@@ -9,7 +9,7 @@ use native.Mathlib.Omega.{arith}
 use lib.Dec.{ltb}
 use lib.ListN.{length, length-append}
 use borrow.Author.Tests.{lt-ltb, le-leb, ltb-true, ltb-false, ne-eqb}
-use Rattle.text.specs.Bytes.{bytes, startsWith}
+use Rattle.text.specs.Bytes.{bytes, startsWith, allDigits}
 use Rattle.text.specs.Number.{digitValue, digitsOf, valueOf, upTo, worth, magnitude, unsigned}
 use Rattle.at_command.specs.Piece.{decimal}
 use Rattle.at_command.proofs.Decimals.{decimal-one, decimal-more}
@@ -31,6 +31,10 @@ reads : {s ds : List ℕ} → Spells s ds → digitsOf 10 s ≡ some ds
 unfolding digitsOf
 reads none = refl
 reads (next {d} h r) = rw (is-digit d h, lt-ltb d 10 h, reads r)
+
+digits : {s ds : List ℕ} → Spells s ds → allDigits s ≡ true
+digits none = refl
+digits (next {d} h r) = rw (le-leb 48 (48 + d) (omega arith), le-leb (48 + d) 57 (omega arith)) (digits r)
 
 value-last : (ds : List ℕ) (d : ℕ) → valueOf 10 (ds ++ d ∷ []) ≡ valueOf 10 ds * 10 + d
 unfolding valueOf
@@ -87,3 +91,6 @@ some-digit n e = by (ltb n 10) (ltb-true n 10) (ltb-false n 10)
 
 pub decimal-reads : (max n : ℕ) → n ≤ max → unsigned 10 max (decimal n) ≡ some n
 decimal-reads max n h = let d = all-digits (suc n) n (omega arith) in whole max n (decimal n) (d .digits) (d .spells) (some-digit n) (d .value) h
+
+pub decimal-digits : (n : ℕ) → allDigits (decimal n) ≡ true
+decimal-digits n = digits (all-digits (suc n) n (omega arith) .spells)

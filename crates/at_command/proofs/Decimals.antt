@@ -2,13 +2,13 @@
 use mathlib.Core.Path.{_≡_, refl, ap, sym, _∙_}
 use mathlib.Core.Bool.{Bool, true, false, cond}
 use mathlib.Core.List.{List, [], _∷_, _++_}
-use Prim.Native.Nat.{ℕ, zero, suc, _+_, _-_, _/_, _%_, _≤_, _<_}
-use native.Mathlib.Nat.{add-suc}
+use Prim.Native.Nat.{ℕ, zero, suc, _+_, _-_, _/_, _%_, _^_, _≤_, _<_}
+use native.Mathlib.Nat.{add-suc, pow-suc}
 use native.Mathlib.Omega.{arith}
 use lib.Dec.{ltb}
 use lib.ListN.{length, take, drop, length-append, drop-of-length-le}
 use lib.Seq.{drop-append-le, take-all}
-use borrow.Author.Tests.{lt-ltb, le-ltb, ltb-false}
+use borrow.Author.Tests.{lt-ltb, le-ltb, ltb-true, ltb-false}
 use Rattle.at_command.specs.WriterSteps.{lastDigits, HasDigits}
 use Rattle.at_command.specs.Piece.{digitsUpTo, decimal}
 
@@ -31,6 +31,15 @@ decimal-one n h = rw (lt-ltb n 10 h)
 pub decimal-more : (n : ℕ) → 10 ≤ n → decimal n ≡ decimal (n / 10) ++ (48 + n % 10) ∷ []
 unfolding decimal digitsUpTo
 decimal-more n h = rw (le-ltb n 10 h) (ap (λ (s : List ℕ). s ++ (48 + n % 10) ∷ []) (enough n (suc (n / 10)) (n / 10) (omega arith) (omega arith)))
+
+-- a number below 10 ^ k has at most k digits, k being at least one
+pub decimal-most : (k n : ℕ) → n < 10 ^ suc k → length (decimal n) ≤ suc k
+decimal-most zero n h = rw (decimal-one n h) (omega arith)
+decimal-most (suc k) n h = by (ltb n 10) (ltb-true n 10) (ltb-false n 10) (decimal-most k (n / 10) (let p = rw pow-suc at h in omega arith))
+  where
+    by : (t : Bool) → (t ≡ true → n < 10) → (t ≡ false → 10 ≤ n) → length (decimal (n / 10)) ≤ suc k → length (decimal n) ≤ suc (suc k)
+    by true f g r = rw (decimal-one n (f refl)) (omega arith)
+    by false f g r = rw (decimal-more n (g refl)) (let z = length-append (decimal (n / 10)) ((48 + n % 10) ∷ []) in omega arith)
 
 -- a number of k digits is its last k digits
 pub last-one : (n : ℕ) → n < 10 → decimal n ≡ lastDigits 1 n

@@ -1,22 +1,22 @@
--- A line that begins as an unsolicited one does is no response: every reader of responses refuses it, with 3.
+-- A line that begins as an unsolicited one or a command does is no response: every reader of responses refuses it, with 3.
 use mathlib.Core.Path.{_≡_, refl, ap, sym, _∙_}
 use mathlib.Core.Bool.{Bool, true, false, _&&_, _||_}
 use mathlib.Core.List.{List, [], _∷_, _++_}
 use mathlib.Core.Option.{none}
 use Prim.Native.Nat.{ℕ, zero, suc, _-_}
 use native.Mathlib.Omega.{arith}
-use lib.Dec.{eqb}
-use lib.ListN.{length, take, getD}
+use lib.Dec.{eqb, leb}
+use lib.ListN.{length, take, getD, replicate}
 use borrow.Author.Tests.{eqb-true, ne-eqb, leb-true}
 use Rattle.text.specs.Bytes.{bytes, startsWith, same, allDigits}
 use Rattle.text.specs.Number.{digitValue, below, digitsOf, magnitude, unsigned}
 use Rattle.text.specs.Part.{among, trimEnd}
-use Rattle.text.specs.Reading.{Reading, read, refused, only, mapped}
+use Rattle.text.specs.Reading.{Reading, read, refused, only, mapped, firstOf}
 use Rattle.text.proofs.Begins.{begins-with, begins-same}
 use Rattle.text.proofs.Parts.{from-start}
 use Rattle.text.proofs.Tests.{never, not-some, and-left, and-right}
 use Rattle.text.proofs.Trims.{end-take}
-use Rattle.text.proofs.Yields.{Yields, then, yields-only, yields-sized, yields-either, yields-need, yields-first, yields-mapped}
+use Rattle.text.proofs.Yields.{Yields, AllYield, then, yields-only, yields-sized, yields-either, yields-need, yields-mapped}
 use Rattle.at_command.specs.Ccid.{cardText, iccidText}
 use Rattle.at_command.specs.Cmgf.{cmgfText}
 use Rattle.at_command.specs.Cmgr.{cmgrText}
@@ -29,9 +29,9 @@ use Rattle.at_command.specs.Gsn.{imeiText}
 use Rattle.at_command.specs.Httptofs.{httptofsText}
 use Rattle.at_command.specs.Response.{Response, readings, responseText}
 
--- the line begins with "+U", or with "+C" and one of these letters
+-- the line begins with "A", as commands do, or with "+U", or "+C" and one of these letters, as unsolicited lines do
 unfoldable pub reserved : List ℕ → Bool
-reserved l = eqb (getD l 0 0) 43 && (eqb (getD l 1 0) 85 || (eqb (getD l 1 0) 67 && among (bytes "RGE") (getD l 2 0)))
+reserved l = eqb (getD l 0 0) 65 || (eqb (getD l 0 0) 43 && (eqb (getD l 1 0) 85 || (eqb (getD l 1 0) 67 && among (bytes "RGE") (getD l 2 0))))
 
 -- ---- numbers and digits
 
@@ -41,17 +41,20 @@ take-first b zero p s e = never (cc)
 take-first b (suc n) p [] e = never (cc)
 take-first b (suc n) p (x ∷ s) e = eqb-true x b (and-left _ _ e)
 
-record Plus (l : List ℕ) : Type 0 where
-  plus : getD l 0 0 ≡ 43
-  letter : below 10 (digitValue (getD l 1 0)) ≡ none
+-- an "A", or a plus and no digit behind it: so no number
+data Wordy (l : List ℕ) : Type 0 where
+  letter : getD l 0 0 ≡ 65 → Wordy l
+  plus : getD l 0 0 ≡ 43 → below 10 (digitValue (getD l 1 0)) ≡ none → Wordy l
 
-reserved-plus : (l : List ℕ) → reserved l ≡ true → Plus l
+reserved-wordy : (l : List ℕ) → reserved l ≡ true → Wordy l
 unfolding reserved digitValue
-reserved-plus l e = record { plus = eqb-true _ 43 (and-left _ _ e); letter = by (eqb (getD l 1 0) 85) (eqb-true _ 85) (and-right (eqb (getD l 0 0) 43) _ e) }
+reserved-wordy l = by (eqb (getD l 0 0) 65) (eqb (getD l 1 0) 85) (eqb-true _ 65) (eqb-true _ 85)
   where
-    by : (t : Bool) → (t ≡ true → getD l 1 0 ≡ 85) → t || (eqb (getD l 1 0) 67 && among (bytes "RGE") (getD l 2 0)) ≡ true → below 10 (digitValue (getD l 1 0)) ≡ none
-    by true f k = rw (f refl)
-    by false f k = rw (eqb-true (getD l 1 0) 67 (and-left _ _ k))
+    by : (a t : Bool) → (a ≡ true → getD l 0 0 ≡ 65) → (t ≡ true → getD l 1 0 ≡ 85)
+        → a || (eqb (getD l 0 0) 43 && (t || (eqb (getD l 1 0) 67 && among (bytes "RGE") (getD l 2 0)))) ≡ true → Wordy l
+    by true t f g e = letter (f refl)
+    by false true f g e = plus (eqb-true _ 43 (and-left _ _ e)) (rw (g refl))
+    by false false f g e = plus (eqb-true _ 43 (and-left _ _ e)) (rw (eqb-true (getD l 1 0) 67 (and-left _ _ (and-right (eqb (getD l 0 0) 43) _ e))))
 
 magnitude-not : (max n : ℕ) (s : List ℕ) → below 10 (digitValue (getD s 0 0)) ≡ none → magnitude 10 max (take n s) ≡ none
 unfolding magnitude digitsOf
@@ -59,16 +62,21 @@ magnitude-not max zero s h = refl
 magnitude-not max (suc n) [] h = refl
 magnitude-not max (suc n) (x ∷ s) h = rw h
 
-unsigned-not : (max n : ℕ) (s : List ℕ) → Plus s → unsigned 10 max (take n s) ≡ none
-unfolding unsigned startsWith magnitude digitsOf
+unsigned-not : (max n : ℕ) (s : List ℕ) → Wordy s → unsigned 10 max (take n s) ≡ none
+unfolding unsigned startsWith magnitude digitsOf digitValue
 unsigned-not max zero s h = refl
 unsigned-not max (suc n) [] h = refl
-unsigned-not max (suc n) (x ∷ s) h = let p : x ≡ 43 = h .plus in rw p (magnitude-not max n s (h .letter))
+unsigned-not max (suc n) (x ∷ s) (letter a) = let p : x ≡ 65 = a in rw p
+unsigned-not max (suc n) (x ∷ s) (plus a h) = let p : x ≡ 43 = a in rw p (magnitude-not max n s h)
 
 digits-front : (l : List ℕ) → allDigits l ≡ true → reserved l ≡ false
 unfolding reserved
 digits-front [] e = refl
-digits-front (x ∷ s) e = rw (ne-eqb x 43 (λ z. let k = leb-true 48 x (and-left _ _ (and-left _ _ e)) in omega arith))
+digits-front (x ∷ s) e =
+    let w = and-left _ _ e in
+    let low = leb-true 48 x (and-left _ _ w) in
+    let high = leb-true x 57 (and-right (leb 48 x) _ w) in
+    rw (ne-eqb x 65 (λ z. omega arith), ne-eqb x 43 (λ z. omega arith))
 
 -- ---- the readers
 
@@ -79,6 +87,11 @@ Refuses = Yields (λ a. ⊥) (λ k. k ≡ 3)
 pub refuses-3 : {A : Type 0} (x : Reading A) → Refuses x → x ≡ refused 3
 refuses-3 (read a) h = absurd h
 refuses-3 (refused k) h = ap refused h
+
+-- and so does each of several
+all-refuse : {A : Type 0} (rs : List (Reading A)) → AllYield (λ a. ⊥) (λ k. k ≡ 3) rs → rs ≡ replicate (length rs) (refused 3)
+all-refuse [] h = refl
+all-refuse (x ∷ rs) h = rw (refuses-3 x (h .0), ← all-refuse rs (h .1))
 
 module _ (l : List ℕ) (h : reserved l ≡ true) where
   other : reserved l ≡ false → ⊥
@@ -114,7 +127,7 @@ module _ (l : List ℕ) (h : reserved l ≡ true) where
   unfolding closeText
   close-no =
       let z = from-start l (length l - 10) in
-      let k = unsigned-not 18446744073709551615 (length l - 10) l (reserved-plus l h) in
+      let k = unsigned-not 18446744073709551615 (length l - 10) l (reserved-wordy l h) in
       yields-only _ _ _ _ refl (λ e. yields-need _ _ _ _ refl (λ n e. not-some (sym k ∙ ap (unsigned 10 18446744073709551615) (sym z) ∙ e)))
 
   iccid-no : Refuses (iccidText l)
@@ -131,11 +144,10 @@ module _ (l : List ℕ) (h : reserved l ≡ true) where
   named : {A : Type 0} (g : A → Response) (x : Reading A) → Refuses x → Refuses (mapped g x)
   named g x = yields-mapped _ _ g x
 
-  pub no-response : responseText l ≡ refused 3
-  unfolding responseText readings csqText cpsiText copsText cntpText httptofsText cmgfText cmgrText reserved
-  no-response =
-      refuses-3 (responseText l)
-      (yields-first _ _ 3 (readings l) refl
+  pub no-readings : readings l ≡ replicate 13 (refused 3)
+  unfolding readings csqText cpsiText copsText cntpText httptofsText cmgfText cmgrText reserved
+  no-readings =
+      all-refuse (readings l)
       (then (named _ _ ok-no)
       (then (named _ _ error-no)
       (then (named _ _ prompt-no)
@@ -149,7 +161,11 @@ module _ (l : List ℕ) (h : reserved l ≡ true) where
       (then (named _ _ imei-no)
       (then (named _ _ (prefixed (bytes "+CMGF: ") (λ t. refl) _))
       (then (named _ _ (prefixed (bytes "+CMGR: ") (λ t. refl) _))
-      tt))))))))))))))
+      tt)))))))))))))
+
+  pub no-response : responseText l ≡ refused 3
+  unfolding responseText firstOf
+  no-response = ap (firstOf 3) no-readings
 
 -- of a line that begins with p, where all such lines are so; for the four prefixes of unsolicited lines that is `λ t. refl`, under `unfolding reserved`
 pub no-response-after : (p l : List ℕ) → ((t : List ℕ) → reserved (p ++ t) ≡ true) → startsWith p l ≡ true → responseText l ≡ refused 3

@@ -1,7 +1,7 @@
 -- Commands as the Rust writes them, and the order of the refusals, each computed.
 use mathlib.Core.Path.{_≡_, refl}
 use mathlib.Core.List.{[], _∷_}
-use lib.ListN.{replicate}
+use lib.ListN.{length, replicate}
 use Rattle.text.specs.Bytes.{bytes}
 use Rattle.text.specs.Reading.{read, refused}
 use Rattle.at_command.specs.Piece.{quoted, digitsUpTo, decimal}
@@ -33,6 +33,11 @@ text-format = refl
 sms : commandOf (readSms 100) ≡ bytes "AT+CMGR=100\r"
 unfolding digitsUpTo decimal
 sms = refl
+
+-- as long as any (proofs/Commands.antt: command-size)
+longest : length (commandOf (downloadToFileSystem (replicate 64 34) (replicate 32 34))) ≡ 210
+unfolding quoted
+longest = refl
 
 -- 5 over both texts, before 6 over both, before 7
 second-long : encodeReading (downloadToFileSystem (bytes "\n") (replicate 33 97)) 0 ≡ refused 5

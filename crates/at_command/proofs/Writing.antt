@@ -1,6 +1,6 @@
 -- The ends of a writer: each refusal, and the command that was laid. Assumes nothing.
 use mathlib.Core.Path.{_≡_, refl, ap, sym, _∙_}
-use mathlib.Core.Bool.{Bool, true, false, cond, not, _||_}
+use mathlib.Core.Bool.{Bool, true, false, cond, not}
 use mathlib.Core.List.{List, [], _∷_, _++_}
 use Prim.Native.Nat.{ℕ, _+_, _≤_, _<_}
 use native.Mathlib.Nat.{zero-add}
@@ -10,7 +10,7 @@ use lib.Dec.{ltb}
 use borrow.Author.Tests.{lt-ltb, le-ltb, ltb-false, not-true, not-false}
 use Rattle.text.specs.Bytes.{allWithin}
 use Rattle.text.specs.Reading.{Reading, read, refused, mapped}
-use Rattle.text.proofs.Tests.{never}
+use Rattle.text.proofs.Tests.{neither}
 use Rattle.at_command.specs.WriterSteps.{Lays, refusalOf}
 use Rattle.at_command.specs.Request.{Asked, commandOf, Text, upTo, textsOf, anyLong, anyUnfit, fitting, LeavesWritten, Writes}
 
@@ -39,6 +39,13 @@ module _ (n : ℕ) (t : List ℕ) (ts : List Text) where
 
     fit : (v : Bool) → not x ≡ false → anyUnfit ts ≡ v → anyUnfit (upTo n t ∷ ts) ≡ v
     fit v h e = rw (sym is ∙ not-false x h) e
+
+  -- and back: where no text is too long or has another byte, neither this one nor those behind it
+  pub limited : anyLong (upTo n t ∷ ts) ≡ false → (length t ≤ n) × (anyLong ts ≡ false)
+  limited h = let l = neither (ltb n (length t)) (anyLong ts) h in (ltb-false n (length t) (l .0), l .1)
+
+  pub fitted : anyUnfit (upTo n t ∷ ts) ≡ false → (allWithin 32 126 t ≡ true) × (anyUnfit ts ≡ false)
+  fitted h = let l = neither (not (allWithin 32 126 t)) (anyUnfit ts) h in (not-false _ (l .0), l .1)
 
 module _ (ts : List Text) where
   says-5 : anyLong ts ≡ true → 5 ≡ refusalOf ts
@@ -85,20 +92,15 @@ module _ (t u : List ℕ) (n m : ℕ) where
   none-long false u k e h = refl
 
   module _ (k : ℕ) (is : k ≡ refusalOf two) (h : k ≤ 0) where
-    both-limited : (length t ≤ n) × (length u ≤ m)
+    both-limited : (length t ≤ n) × (anyLong (upTo m u ∷ []) ≡ false)
     unfolding refusalOf
-    both-limited = go (ltb n (length t)) (ltb m (length u)) (ltb-false n (length t)) (ltb-false m (length u)) (none-long (anyLong two) (anyUnfit two) k is h)
-      where
-        go : (a b : Bool) → (a ≡ false → length t ≤ n) → (b ≡ false → length u ≤ m) → a || (b || false) ≡ false → (length t ≤ n) × (length u ≤ m)
-        go false false f g e = (f refl, g refl)
-        go false true f g e = never (cc)
-        go true b f g e = never (cc)
+    both-limited = limited n t (upTo m u ∷ []) (none-long (anyLong two) (anyUnfit two) k is h)
 
     pub first-limited : length t ≤ n
     first-limited = both-limited .0
 
     pub second-limited : length u ≤ m
-    second-limited = both-limited .1
+    second-limited = limited m u [] (both-limited .1) .0
 
 -- a request's writer: the texts come first
 module _ (a : Asked) (b : List ℕ) (k : ℕ) (is : k ≡ refusalOf (textsOf a)) where

@@ -1,5 +1,5 @@
 -- The requests: what each sends, which it refuses, what it awaits (the `AtRequest` of each Rust file; TS 27.007 and 27.005).
-use Prim.Native.Nat.{ℕ}
+use Prim.Native.Nat.{ℕ, _^_, _<_}
 use mathlib.Core.Path.{_≡_}
 use mathlib.Core.Bool.{Bool, false, cond, not, _||_}
 use mathlib.Core.List.{List, [], _∷_, _++_}
@@ -25,6 +25,22 @@ pub data Asked : Type 0 where
   getSmsMessageFormat : Asked
   setSmsMessageFormat : (format : ℕ) → Asked
   readSms : (index : ℕ) → Asked
+
+-- its numbers are of the Rust's types: a timezone is a u16, a cid and an index are each a u8, and a format is 0 or 1
+abbrev pub Numbers : Asked → Type 0
+Numbers getSignalQuality = Unit {0}
+Numbers showIccid = Unit {0}
+Numbers getImei = Unit {0}
+Numbers getOperatorInfo = Unit {0}
+Numbers (setManualOperator plmn) = Unit {0}
+Numbers setAutomaticOperator = Unit {0}
+Numbers getSystemInfo = Unit {0}
+Numbers (synchronizeNetworkTime server timezone cid) = (timezone < 2 ^ 16) × (cid < 2 ^ 8)
+Numbers execute = Unit {0}
+Numbers (downloadToFileSystem url path) = Unit {0}
+Numbers getSmsMessageFormat = Unit {0}
+Numbers (setSmsMessageFormat format) = format < 2
+Numbers (readSms index) = index < 2 ^ 8
 
 -- what it sends, up to the CR that ends every command line (V.250, 5.2.1)
 abbrev pub bodyOf : Asked → List ℕ

@@ -1,10 +1,11 @@
 -- A line that begins with a text is that text and what follows it. Assumes nothing.
-use mathlib.Core.Path.{_≡_, refl, ap, sym, subst}
-use mathlib.Core.Bool.{true}
+use mathlib.Core.Path.{_≡_, refl, ap, sym, subst, _∙_}
+use mathlib.Core.Bool.{Bool, true, _&&_}
 use mathlib.Core.List.{List, [], _∷_, _++_}
-use Prim.Native.Nat.{ℕ}
+use Prim.Native.Nat.{ℕ, _≤_}
+use native.Mathlib.Omega.{arith}
 use lib.Dec.{eqb}
-use lib.ListN.{length, drop}
+use lib.ListN.{length, drop, length-append}
 use borrow.Author.Tests.{eqb-true}
 use Rattle.text.specs.Bytes.{startsWith, same}
 use Rattle.text.proofs.Tests.{never, and-left, and-right}
@@ -25,3 +26,13 @@ begins-with P p s f e = subst P (sym (begins-split p s e)) (f (drop (length p) s
 pub begins-same : (p s : List ℕ) → same s p ≡ true → startsWith p s ≡ true
 unfolding same
 begins-same p s e = and-right (eqb (length s) (length p)) _ e
+
+pub begins-size : (p s : List ℕ) → startsWith p s ≡ true → length p ≤ length s
+begins-size p s e = let z = ap length (begins-split p s e) ∙ length-append p (drop (length p) s) in omega arith
+
+-- a text at the front: what follows is of no matter where enough stands before it
+pub starts-in : (d q t : List ℕ) → length d ≤ length q → startsWith d (q ++ t) ≡ startsWith d q
+unfolding startsWith
+starts-in [] q t h = refl
+starts-in (c ∷ d) [] t h = absurd (omega arith)
+starts-in (c ∷ d) (x ∷ q) t h = ap (λ (b : Bool). eqb x c && b) (starts-in d q t (omega arith))

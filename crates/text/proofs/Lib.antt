@@ -1,4 +1,5 @@
 pub mod Accepts
+pub mod Ascii
 pub mod AtIndex
 pub mod Begins
 pub mod Below

@@ -1,26 +1,18 @@
 -- A line begins with a prefix p and the text d, as ": ", exactly when Rust's `split_once(d)` gives p before d, and what that gives behind it is then the rest
 -- of the line: for every p in which no d begins with d behind it (`clearOf`), which is computed for each prefix. Assumes nothing.
 use mathlib.Core.Path.{_≡_, refl, ap, sym, _∙_}
-use mathlib.Core.Bool.{Bool, true, false, cond, not, _&&_}
+use mathlib.Core.Bool.{Bool, true, false, cond, not}
 use mathlib.Core.List.{List, [], _∷_, _++_}
 use mathlib.Core.Option.{Option, none, some, Option·map}
-use Prim.Native.Nat.{ℕ, _+_, _≤_}
+use Prim.Native.Nat.{ℕ, _+_}
 use native.Mathlib.Omega.{arith}
-use lib.Dec.{eqb}
 use lib.ListN.{length, drop, length-append}
 use lib.Seq.{drop-append-seam, drop-nil}
 use borrow.Author.Tests.{eq-eqb, not-true}
 use Rattle.text.specs.Bytes.{bytes, startsWith}
 use Rattle.text.specs.SplitOnce.{Halves, behindByte, splitOnce, clearOf, allClear, Agrees, AllAgree}
 use Rattle.text.proofs.Tests.{not-some, and-left, and-right}
-use Rattle.text.proofs.Begins.{begins-split}
-
--- a text at the front: what follows is of no matter where enough stands before it
-starts-in : (d q t : List ℕ) → length d ≤ length q → startsWith d (q ++ t) ≡ startsWith d q
-unfolding startsWith
-starts-in [] q t h = refl
-starts-in (c ∷ d) [] t h = absurd (omega arith)
-starts-in (c ∷ d) (x ∷ q) t h = ap (λ (b : Bool). eqb x c && b) (starts-in d q t (omega arith))
+use Rattle.text.proofs.Begins.{begins-split, starts-in}
 
 starts-self : (d t : List ℕ) → startsWith d (d ++ t) ≡ true
 unfolding startsWith

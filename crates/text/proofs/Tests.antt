@@ -1,4 +1,4 @@
--- Tests: cases on one, what a test of two that passes says of each, and one of several under the name that the code has. And what is never equal.
+-- Tests: cases on one, what a test of two that passes, or fails, says of each, and one of several under the name that the code has. And what is never equal.
 use mathlib.Core.Path.{_≡_, refl, sym}
 use mathlib.Core.Logic.{_⊎_, inl, inr}
 use mathlib.Core.Bool.{Bool, true, false, _&&_, _||_, and-eq-true-iff}
@@ -23,6 +23,11 @@ module _ (a b : Bool) (h : a && b ≡ true) where
 
   pub and-right : b ≡ true
   and-right = and-eq-true-iff a b .0 h .1
+
+pub neither : (a b : Bool) → a || b ≡ false → (a ≡ false) × (b ≡ false)
+neither false false h = (refl, refl)
+neither false true h = never (cc)
+neither true b h = never (cc)
 
 module _ (x a b : Bool) (is : x ≡ a) where
   pub or-first : x ≡ true → true ≡ (a || b)

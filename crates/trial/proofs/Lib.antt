@@ -1,5 +1,6 @@
 pub mod Refusals
 pub mod Apart
 pub mod Turns
+pub mod Commands
 pub mod Fourteen
 pub mod One

@@ -1,4 +1,5 @@
 pub mod Answer
 pub mod Sort
+pub mod Commands
 pub mod Fourteen
 pub mod says

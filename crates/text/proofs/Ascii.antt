@@ -1,0 +1,38 @@
+-- Bytes in a range: those of two texts together, and in a wider range. A line of ASCII bytes is UTF-8, and passes the check if it is not too long. Assumes nothing.
+use mathlib.Core.Path.{_≡_, refl, ap, sym, _∙_}
+use mathlib.Core.Bool.{Bool, true, _&&_, and-assoc}
+use mathlib.Core.List.{List, [], _∷_, _++_}
+use Prim.Native.Nat.{ℕ, _≤_}
+use native.Mathlib.Omega.{arith}
+use lib.Dec.{leb}
+use lib.ListN.{length}
+use borrow.Author.Tests.{leb-true, le-leb}
+use Rattle.text.specs.Bytes.{within, allWithin}
+use Rattle.text.specs.Line.{lineCheck}
+use Rattle.text.specs.Utf8.{behind, utf8}
+use Rattle.text.proofs.LineLaws.{check-good}
+use Rattle.text.proofs.Tests.{and-left, and-right}
+use Rattle.text.proofs.Utf8Laws.{utf8-ascii}
+
+module _ (lo hi : ℕ) where
+  pub within-append : (s t : List ℕ) → allWithin lo hi (s ++ t) ≡ allWithin lo hi s && allWithin lo hi t
+  within-append [] t = refl
+  within-append (x ∷ s) t = ap (λ (b : Bool). within lo hi x && b) (within-append s t) ∙ sym (and-assoc (within lo hi x) (allWithin lo hi s) (allWithin lo hi t))
+
+  pub within-wider : (a b : ℕ) → a ≤ lo → hi ≤ b → (s : List ℕ) → allWithin lo hi s ≡ true → allWithin a b s ≡ true
+  within-wider a b l h [] e = refl
+  within-wider a b l h (x ∷ s) e =
+      let w = and-left (within lo hi x) _ e in
+      let low = leb-true lo x (and-left (leb lo x) _ w) in
+      let high = leb-true x hi (and-right (leb lo x) _ w) in
+      rw (le-leb a x (omega arith), le-leb x b (omega arith)) (within-wider a b l h s (and-right (within lo hi x) _ e))
+
+pub ascii-utf8 : (s : List ℕ) → allWithin 0 0x7F s ≡ true → utf8 s ≡ true
+unfolding utf8 behind
+ascii-utf8 [] e = refl
+ascii-utf8 (x ∷ s) e =
+    let high = leb-true x 0x7F (and-right (leb 0 x) _ (and-left (within 0 0x7F x) _ e)) in
+    utf8-ascii (x ∷ s) 0 refl (omega arith) (omega arith) ∙ ascii-utf8 s (and-right (within 0 0x7F x) _ e)
+
+pub check-ascii : (s : List ℕ) → length s ≤ 256 → allWithin 0 0x7F s ≡ true → lineCheck s ≡ 0
+check-ascii s h e = sym (check-good s true h (sym (ascii-utf8 s e)) refl)
