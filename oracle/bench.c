@@ -170,17 +170,15 @@ static uint64_t plain_cut(const struct lines *l)
     return sum;
 }
 
-typedef uint8_t feeds(uint8_t line[257], uint64_t state[2], const uint8_t *chunk, size_t chunk_len, uint8_t *text, size_t text_len,
-                      uint64_t told[4]);
+typedef uint8_t feeds(uint8_t line[257], uint64_t state[3], const uint8_t sent[210], const uint8_t *chunk, size_t chunk_len, uint8_t *text,
+                      size_t text_len, uint64_t told[4]);
 
-static uint64_t desk_feed(const struct lines *l, feeds *feed)
+static uint64_t desk_feed(const struct lines *l, feeds *feed, sim7000_desk *desk)
 {
-    static sim7000_desk desk;
     uint8_t text[256];
     uint64_t sum = 0, told[4];
-    sim7000_reset(desk.state);
     for (size_t at = 0; at < l->size; at += told[1]) {
-        if (feed(desk.line, desk.state, l->bytes + at, l->size - at, text, sizeof text, told) != 0)
+        if (feed(desk->line, desk->state, desk->sent, l->bytes + at, l->size - at, text, sizeof text, told) != 0)
             fail("a feed was refused");
         if (told[0] != SIM7000_NO_EVENT) {
             keep(text);
@@ -190,15 +188,38 @@ static uint64_t desk_feed(const struct lines *l, feeds *feed)
     return sum;
 }
 
-static uint64_t lent_feed(const struct lines *l) { return desk_feed(l, sim7000_feed); }
+static uint64_t lent_feed(const struct lines *l)
+{
+    static sim7000_desk desk;
+    sim7000_reset(desk.state);
+    return desk_feed(l, sim7000_feed, &desk);
+}
+
+/* No line is the echo, so that each is compared with it; the mixed lines have AT+CSQ among them, but not AT+GSN. */
+static uint64_t echo_feed(const struct lines *l)
+{
+    static sim7000_desk desk;
+    static const uint8_t none[1];
+    uint8_t out[256];
+    uint64_t size;
+    sim7000_reset(desk.state);
+    if (sim7000_open_echo(desk.state, desk.sent, SIM7000_GET_IMEI, 0, 0, none, 0, none, 0, out, sizeof out, &size) != 0)
+        fail("an open was refused");
+    uint64_t sum = desk_feed(l, sim7000_feed, &desk);
+    if (desk.state[2] != size)
+        fail("a line is the echo");
+    return sum;
+}
 
 /* crates/bench: the desk is made of its parts, fed by value and taken apart again, for each event. It answers 1 with an event, and told has the
  * bytes taken and the size. */
 uint8_t bench_feed(uint8_t line[257], size_t *len, const uint8_t *chunk, size_t chunk_len, uint8_t *text, size_t text_len, size_t told[2]);
 
-static uint8_t by_value(uint8_t line[257], uint64_t state[2], const uint8_t *chunk, size_t chunk_len, uint8_t *text, size_t text_len, uint64_t told[4])
+static uint8_t by_value(uint8_t line[257], uint64_t state[3], const uint8_t sent[210], const uint8_t *chunk, size_t chunk_len, uint8_t *text,
+                        size_t text_len, uint64_t told[4])
 {
     size_t len = state[0], got[2];
+    (void)sent;
     uint8_t answer = bench_feed(line, &len, chunk, chunk_len, text, text_len, got);
     state[0] = len;
     told[0] = answer;
@@ -207,7 +228,12 @@ static uint8_t by_value(uint8_t line[257], uint64_t state[2], const uint8_t *chu
     return answer > 1 ? answer : 0;
 }
 
-static uint64_t value_feed(const struct lines *l) { return desk_feed(l, by_value); }
+static uint64_t value_feed(const struct lines *l)
+{
+    static sim7000_desk desk;
+    sim7000_reset(desk.state);
+    return desk_feed(l, by_value, &desk);
+}
 
 /* ---- times: the sides take turns, and the best round of each counts */
 
@@ -260,20 +286,22 @@ static void told_feed(const char *name, double took, double readers, double plai
 /* `text` are the lines without CR LF, `wire` the same bytes with it. */
 static void feed_bench(const char *name, const struct lines *text, const struct lines *wire)
 {
-    work *const sides[] = {plain_cut, lent_feed, value_feed};
+    work *const sides[] = {plain_cut, lent_feed, echo_feed, value_feed};
     work *const readers[] = {our_sort};
-    double best[3], apart[1];
-    uint64_t sums[3], sum[1];
-    timed(wire, sides, 3, best, sums);
+    double best[4], apart[1];
+    uint64_t sums[4], sum[1];
+    timed(wire, sides, 4, best, sums);
     timed(text, readers, 1, apart, sum);
-    if (sums[0] != sums[1] || sums[0] != sums[2])
+    if (sums[0] != sums[1] || sums[0] != sums[2] || sums[0] != sums[3])
         fail("the cutter and the desk hear different lines");
     double bytes = (double)wire->size;
     printf("feed, %s: %zu bytes\n", name, wire->size);
     printf("  a plain cutter in C            %8.2f ns a byte, %7.1f MB/s\n", best[0] / bytes * 1e9, bytes / best[0] * 1e-6);
     printf("  the readers alone              %8.2f ns a byte\n", apart[0] / bytes * 1e9);
     told_feed("sim7000_feed, the desk lent", best[1], apart[0], best[0], bytes);
-    told_feed("Desk::feed, by value", best[2], apart[0], best[0], bytes);
+    told_feed("the same, an echo awaited", best[2], apart[0], best[0], bytes);
+    printf("    which is %.2f times the plain feed's\n", best[2] / best[1]);
+    told_feed("Desk::feed, by value", best[3], apart[0], best[0], bytes);
 }
 
 static struct lines framed(const struct lines *l)

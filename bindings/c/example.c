@@ -1,5 +1,6 @@
 /* A main loop: asks the modem for its signal, and prints what the desk hears. Standard input and output stand for the modem's wire and the
- * log. Try it: bindings/test builds it, and  printf '\r\n+CSQ: 31,99\r\n\r\nOK\r\n' | target/bindings/example  */
+ * log. The modem's echo is on (ATE1), so that a reply to an earlier command, which comes before the echo of this one, is not taken for its own.
+ * Try it: bindings/test builds it, and  printf 'AT+CSQ\r\r\n\r\n+CSQ: 31,99\r\n\r\nOK\r\n' | target/bindings/c-example  */
 #include <inttypes.h>
 #include <stdio.h>
 #include <string.h>
@@ -8,13 +9,16 @@
 #include "sim7000.h"
 
 static const uint8_t none[1]; /* a text of no bytes */
-static const char *const words[] = {"", "unsolicited", "taken", "done", "short", "failed", "stray", "overlong"};
+static const char *const words[] = {"", "unsolicited", "taken", "done", "short", "failed", "stray", "overlong", "echo"};
 
 static void heard(const uint64_t told[4], const uint8_t *text)
 {
     uint64_t values[SIM7000_VALUES];
     float strength;
-    printf("%s %.*s\n", words[told[0]], (int)told[2], (const char *)text);
+    int size = (int)told[2];
+    if (size > 0 && text[size - 1] == '\r') /* an echo has one: a log needs none */
+        size--;
+    printf("%s %.*s\n", words[told[0]], size, (const char *)text);
     if (told[0] != SIM7000_TAKEN || sim7000_read_line(text, told[2], values) != 0)
         return;
     if (values[0] == SIM7000_SIGNAL_QUALITY && values[1] == 1) {
@@ -26,16 +30,16 @@ static void heard(const uint64_t told[4], const uint8_t *text)
 
 int main(void)
 {
-    sim7000_desk desk = {{0}, {0}};
+    sim7000_desk desk = {{0}, {0}, {0}};
     uint8_t out[256], text[256], chunk[64];
     uint64_t size, told[4];
     ssize_t got;
-    if (sim7000_open(desk.state, SIM7000_GET_SIGNAL_QUALITY, 0, 0, none, 0, none, 0, out, sizeof out, &size) != 0)
+    if (sim7000_open_echo(desk.state, desk.sent, SIM7000_GET_SIGNAL_QUALITY, 0, 0, none, 0, none, 0, out, sizeof out, &size) != 0)
         return 1;
     printf("open %.*s\n", (int)size - 1, (const char *)out);
     while ((got = read(0, chunk, sizeof chunk)) > 0) {
         for (size_t at = 0; at < (size_t)got; at += told[1]) {
-            if (sim7000_feed(desk.line, desk.state, chunk + at, (size_t)got - at, text, sizeof text, told) != 0)
+            if (sim7000_feed(desk.line, desk.state, desk.sent, chunk + at, (size_t)got - at, text, sizeof text, told) != 0)
                 return 1;
             if (told[0] != SIM7000_NO_EVENT)
                 heard(told, text);

@@ -88,10 +88,12 @@ uint8_t sim7000_write_command(uint8_t request, uint16_t number, uint8_t code, co
 /* ---- the desk */
 
 /* All zeros is a new desk, and no content is ill-formed. state[0] counts the bytes of the line that is coming (above 257 it is being
- * dropped); state[1] is 0, or above 182, while no command is open. */
+ * dropped); state[1] is 0, or above 182, while no command is open; state[2] is how many bytes of sent are the echo that is awaited, and 0, or
+ * above 210, while none is. */
 typedef struct sim7000_desk {
     uint8_t line[257];
-    uint64_t state[2];
+    uint8_t sent[210];
+    uint64_t state[3];
 } sim7000_desk;
 
 /* An event, which is told[0]; told[1] are the bytes taken, told[2] the size of the line in text, told[3] the number of a Stray. */
@@ -103,19 +105,25 @@ enum {
     SIM7000_SHORT = 4,
     SIM7000_FAILED = 5,
     SIM7000_STRAY = 6,
-    SIM7000_OVERLONG = 7
+    SIM7000_OVERLONG = 7,
+    SIM7000_ECHO = 8 /* the line may end with a CR: modems send the command, CR, CR LF */
 };
 
 /* As sim7000_write_command, and the command's answers are awaited: 0; or 3, 8, 9, 5, 6, 7. */
-uint8_t sim7000_open(uint64_t state[2], uint8_t request, uint16_t number, uint8_t code, const uint8_t *first, size_t first_len,
+uint8_t sim7000_open(uint64_t state[3], uint8_t request, uint16_t number, uint8_t code, const uint8_t *first, size_t first_len,
                      const uint8_t *second, size_t second_len, uint8_t *out, size_t out_len, uint64_t *size);
 
-/* Takes bytes of chunk up to and with the first that yields an event, or all; the line is then in front of text. 0, or 10. */
-uint8_t sim7000_feed(uint8_t line[257], uint64_t state[2], const uint8_t *chunk, size_t chunk_len, uint8_t *text, size_t text_len,
-                     uint64_t told[4]);
+/* The same for a modem with echo on (ATE1). Until a line equals the command, with or without its final CR, a response or an error is a late
+ * one: Stray 0. The equal line is the Echo, and from then on all is as after sim7000_open. The command is kept in sent, so out is free. */
+uint8_t sim7000_open_echo(uint64_t state[3], uint8_t sent[210], uint8_t request, uint16_t number, uint8_t code, const uint8_t *first,
+                          size_t first_len, const uint8_t *second, size_t second_len, uint8_t *out, size_t out_len, uint64_t *size);
 
-/* Closes the command and forgets an unfinished line. */
-void sim7000_reset(uint64_t state[2]);
+/* Takes bytes of chunk up to and with the first that yields an event, or all; the line is then in front of text. 0, or 10. */
+uint8_t sim7000_feed(uint8_t line[257], uint64_t state[3], const uint8_t sent[210], const uint8_t *chunk, size_t chunk_len, uint8_t *text,
+                     size_t text_len, uint64_t told[4]);
+
+/* Closes the command, awaits no echo, and forgets an unfinished line. */
+void sim7000_reset(uint64_t state[3]);
 
 #ifdef __cplusplus
 }

@@ -1,6 +1,7 @@
 //! The proved readers, writers and desk for the SIM7000 modem, under the names of technocreatives/sim7000.
 //!
 //! The work is done by libsim7000.a, whose calls are proved; what is here turns numbers into types. A text is a part of the lent line.
+//! Where the modem's echo is on, `Desk::open_echo` keeps a late reply from being taken for the next command's.
 
 #![no_std]
 #![deny(missing_docs)]

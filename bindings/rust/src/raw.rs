@@ -16,7 +16,21 @@ extern "C" {
         size: *mut u64,
     ) -> u8;
     pub fn sim7000_open(
-        state: *mut [u64; 2],
+        state: *mut [u64; 3],
+        request: u8,
+        number: u16,
+        code: u8,
+        first: *const u8,
+        first_len: usize,
+        second: *const u8,
+        second_len: usize,
+        out: *mut u8,
+        out_len: usize,
+        size: *mut u64,
+    ) -> u8;
+    pub fn sim7000_open_echo(
+        state: *mut [u64; 3],
+        sent: *mut [u8; 210],
         request: u8,
         number: u16,
         code: u8,
@@ -30,12 +44,13 @@ extern "C" {
     ) -> u8;
     pub fn sim7000_feed(
         line: *mut [u8; 257],
-        state: *mut [u64; 2],
+        state: *mut [u64; 3],
+        sent: *const [u8; 210],
         chunk: *const u8,
         chunk_len: usize,
         text: *mut u8,
         text_len: usize,
         told: *mut [u64; 4],
     ) -> u8;
-    pub fn sim7000_reset(state: *mut [u64; 2]);
+    pub fn sim7000_reset(state: *mut [u64; 3]);
 }

@@ -50,11 +50,9 @@ fn commands() {
     assert!(wide[size..].iter().all(|&byte| byte == 7));
 }
 
-/// The events of a desk with AT+CSQ open that is fed in chunks of so many bytes.
-fn events(bytes: &[u8], chunk: usize) -> Vec<(Event, Vec<u8>)> {
-    let (mut desk, mut out, mut text, mut all) = (Desk::new(), [0; 64], [0; 256], Vec::new());
-    assert_eq!(desk.open(&Request::GetSignalQuality, &mut out), Ok(&b"AT+CSQ\r"[..]));
-    assert!(desk.is_open());
+/// What a desk hears of bytes that come in chunks of so many.
+fn heard(desk: &mut Desk, bytes: &[u8], chunk: usize) -> Vec<(Event, Vec<u8>)> {
+    let (mut text, mut all) = ([0; 256], Vec::new());
     for mut rest in bytes.chunks(chunk) {
         while !rest.is_empty() {
             let fed = desk.feed(rest, &mut text).unwrap();
@@ -65,10 +63,31 @@ fn events(bytes: &[u8], chunk: usize) -> Vec<(Event, Vec<u8>)> {
     all
 }
 
+/// The same of a desk with AT+CSQ open.
+fn events(bytes: &[u8], chunk: usize) -> Vec<(Event, Vec<u8>)> {
+    let (mut desk, mut out) = (Desk::new(), [0; 64]);
+    assert_eq!(desk.open(&Request::GetSignalQuality, &mut out), Ok(&b"AT+CSQ\r"[..]));
+    assert!(desk.is_open());
+    heard(&mut desk, bytes, chunk)
+}
+
+/// The same with its echo awaited, and whether the command is open after them. The buffer that it was written to is overwritten first.
+fn echo_events(bytes: &[u8], chunk: usize) -> (Vec<(Event, Vec<u8>)>, bool) {
+    let (mut desk, mut out) = (Desk::new(), [0; 64]);
+    assert_eq!(desk.open_echo(&Request::GetSignalQuality, &mut out), Ok(&b"AT+CSQ\r"[..]));
+    assert!(desk.is_open());
+    out.fill(b'x');
+    let all = heard(&mut desk, bytes, chunk);
+    (all, desk.is_open())
+}
+
+fn line(event: Event, line: &[u8]) -> (Event, Vec<u8>) {
+    (event, line.to_vec())
+}
+
 #[test]
 fn document_01s_example_in_every_cut() {
     let bytes = b"\r\n+CEREG: 5\r\n\r\n+CSQ: 31,99\r\n\r\nOK\r\n";
-    let line = |event, line: &[u8]| (event, line.to_vec());
     let expected = vec![line(Event::Unsolicited, b"+CEREG: 5"), line(Event::Taken, b"+CSQ: 31,99"), line(Event::Done, b"OK")];
     for chunk in 1..=bytes.len() {
         assert_eq!(events(bytes, chunk), expected);
@@ -80,10 +99,122 @@ fn the_other_events() {
     let mut bytes = b"ERROR\nOK\n\xff\n> ".to_vec();
     bytes.extend([b'a'; 257]);
     bytes.push(b'\n');
-    let line = |event, line: &[u8]| (event, line.to_vec());
     let expected = vec![line(Event::Failed, b"ERROR"), line(Event::Stray(0), b"OK"), line(Event::Stray(2), b"\xff"), line(Event::Stray(0), b"> "), line(Event::Overlong, b"")];
     assert_eq!(events(&bytes, 5), expected);
     assert_eq!(events(b"OK\n", 3), vec![line(Event::Short, b"OK")]);
+}
+
+/// What an earlier command's late reply is in both modes.
+#[test]
+fn a_late_reply_in_every_cut() {
+    let bytes = b"\r\n+CSQ: 5,0\r\n\r\nOK\r\nAT+CSQ\r\r\n\r\n+CEREG: 5\r\n\r\n+CSQ: 31,99\r\n\r\nOK\r\n";
+    let expected = vec![
+        line(Event::Stray(0), b"+CSQ: 5,0"),
+        line(Event::Stray(0), b"OK"),
+        line(Event::Echo, b"AT+CSQ\r"),
+        line(Event::Unsolicited, b"+CEREG: 5"),
+        line(Event::Taken, b"+CSQ: 31,99"),
+        line(Event::Done, b"OK"),
+    ];
+    for chunk in 1..=bytes.len() {
+        assert_eq!(echo_events(bytes, chunk), (expected.clone(), false));
+    }
+    assert_eq!(events(bytes, 7)[..2], [line(Event::Taken, b"+CSQ: 5,0"), line(Event::Done, b"OK")]);
+}
+
+#[test]
+fn the_echo_with_and_without_its_cr() {
+    assert_eq!(echo_events(b"AT+CSQ\r\r\n", 9), (vec![line(Event::Echo, b"AT+CSQ\r")], true));
+    assert_eq!(echo_events(b"AT+CSQ\r\n", 8), (vec![line(Event::Echo, b"AT+CSQ")], true));
+    assert_eq!(echo_events(b"AT+CSQ\n", 7), (vec![line(Event::Echo, b"AT+CSQ")], true));
+    let others: [&[u8]; 11] =
+        [b"AT+CS", b"A", b"AT+CSQ?", b"AT+CSQ\r\r", b"AT+CSQ\r?", b"at+csq", b" AT+CSQ", b"AT+CSQ ", b"AT+CSR", b"BT+CSQ\r", b"AT+CSQ\0"];
+    for other in others {
+        let bytes = [other, b"\r\n"].concat();
+        assert_eq!(echo_events(&bytes, bytes.len()), (vec![line(Event::Stray(3), other)], true), "{}", other.escape_ascii());
+    }
+}
+
+#[test]
+fn before_the_echo_and_after_it() {
+    let strays: [(&[u8], u8); 9] = [
+        (b"OK", 0),
+        (b"ERROR", 0),
+        (b"+CME ERROR: 10", 0),
+        (b"+CSQ: 31,99", 0),
+        (b"490154203237518", 0),
+        (b"\xff", 2),
+        (b"AT+CSQ?", 3),
+        (b"+CMGR: 0,\"123456789012345678901\",,", 4),
+        (b"OK", 0),
+    ];
+    let (mut bytes, mut expected) = (Vec::new(), Vec::new());
+    for (stray, number) in strays {
+        bytes.extend([stray, b"\r\n"].concat());
+        expected.push(line(Event::Stray(number), stray));
+    }
+    bytes.extend(b"> \r\n+CEREG: 5\r\n");
+    bytes.extend([b'a'; 257]);
+    bytes.extend(b"\r\n");
+    expected.extend([line(Event::Stray(0), b"> "), line(Event::Unsolicited, b"+CEREG: 5"), line(Event::Overlong, b"")]);
+    assert_eq!(echo_events(&bytes, 1), (expected.clone(), true));
+    bytes.extend(b"AT+CSQ\r\r\nAT+CSQ\r\r\nAT+CSQ\r\n");
+    expected.extend([line(Event::Echo, b"AT+CSQ\r"), line(Event::Stray(3), b"AT+CSQ\r"), line(Event::Stray(3), b"AT+CSQ")]);
+    for (answers, told) in [
+        (&b"+CSQ: 31,99\r\nOK\r\nAT+CSQ\r\r\n"[..], vec![line(Event::Taken, b"+CSQ: 31,99"), line(Event::Done, b"OK"), line(Event::Stray(3), b"AT+CSQ\r")]),
+        (b"ERROR\r\n", vec![line(Event::Failed, b"ERROR")]),
+        (b"OK\r\n", vec![line(Event::Short, b"OK")]),
+    ] {
+        let (bytes, expected) = ([&bytes, answers].concat(), [&expected[..], &told].concat());
+        assert_eq!(echo_events(&bytes, 1), (expected.clone(), false));
+        assert_eq!(echo_events(&bytes, bytes.len()), (expected, false));
+    }
+}
+
+#[test]
+fn the_longest_command_comes_back() {
+    let (mut desk, mut out) = (Desk::new(), [0; 210]);
+    let command = desk.open_echo(&Request::DownloadToFileSystem { url: &[b'"'; 64], file_path: &[b'"'; 32] }, &mut out).unwrap().to_vec();
+    assert_eq!(command.len(), 210);
+    let (mut long, mut other) = (command.clone(), command.clone());
+    long.insert(209, b'"');
+    other[208] = b'x';
+    let bytes = [&long, &b"\r\n"[..], &other, b"\r\n", &command[..209], b"\r\n", &command, b"\r\n"].concat();
+    let expected = [line(Event::Stray(3), &long), line(Event::Stray(3), &other), line(Event::Echo, &command[..209]), line(Event::Stray(3), &command)];
+    assert_eq!(heard(&mut desk, &bytes, 64), expected);
+    // of the long command only bytes behind the next one are left, and they change nothing
+    desk.reset();
+    assert!(desk.open_echo(&Request::GetSignalQuality, &mut out).is_ok());
+    let expected = [line(Event::Stray(0), b"+CSQ: 5,0"), line(Event::Echo, b"AT+CSQ"), line(Event::Taken, b"+CSQ: 31,99")];
+    assert_eq!(heard(&mut desk, b"+CSQ: 5,0\nAT+CSQ\n+CSQ: 31,99\n", 64), expected);
+}
+
+#[test]
+fn a_plain_open_awaits_no_echo() {
+    let (mut desk, mut out) = (Desk::new(), [0; 64]);
+    assert!(desk.open_echo(&Request::GetSignalQuality, &mut out).is_ok());
+    desk.reset();
+    assert_eq!(heard(&mut desk, b"AT+CSQ\n", 64), [line(Event::Stray(3), b"AT+CSQ")]);
+    assert!(desk.open(&Request::GetSignalQuality, &mut out).is_ok());
+    assert_eq!(heard(&mut desk, b"AT+CSQ\n+CSQ: 31,99\n", 64), [line(Event::Stray(3), b"AT+CSQ"), line(Event::Taken, b"+CSQ: 31,99")]);
+}
+
+#[test]
+fn refusals_of_an_open_in_echo_mode() {
+    let (mut desk, mut out, mut text) = (Desk::new(), [7; 64], [0; 256]);
+    assert_eq!(desk.feed(b"+C", &mut text), Ok(Fed { taken: 2, heard: None }));
+    assert_eq!(desk.open_echo(&Request::GetImei, &mut out), Err(Refusal(9)));
+    desk.reset();
+    assert_eq!(desk.open_echo(&Request::SetManualOperator { plmn: b"6430411" }, &mut out), Err(Refusal(5)));
+    assert_eq!(desk.open_echo(&Request::SetManualOperator { plmn: b"\n" }, &mut out), Err(Refusal(6)));
+    assert_eq!(desk.open_echo(&Request::GetImei, &mut out[..6]), Err(Refusal(7)));
+    assert_eq!(out, [7; 64]);
+    assert!(!desk.is_open());
+    assert_eq!(desk.open_echo(&Request::GetImei, &mut out[..7]), Ok(&b"AT+GSN\r"[..]));
+    // refused, it leaves AT+GSN awaited
+    assert_eq!(desk.open_echo(&Request::GetSignalQuality, &mut out), Err(Refusal(8)));
+    assert_eq!(desk.open(&Request::GetSignalQuality, &mut out), Err(Refusal(8)));
+    assert_eq!(heard(&mut desk, b"AT+CSQ\nAT+GSN\n", 64), [line(Event::Stray(3), b"AT+CSQ"), line(Event::Echo, b"AT+GSN")]);
 }
 
 #[test]

@@ -117,6 +117,21 @@ fn request<'a>(fields: &[&'a [u8]]) -> Option<Request<'a>> {
     })
 }
 
+/// The command, opened in echo mode, is known again with its CR and without it, and only once; no reader takes it.
+fn comes_back(request: &Request, command: &[u8]) {
+    let bare = command.strip_suffix(b"\r").unwrap();
+    for (echo, again) in [(command, bare), (bare, command)] {
+        let (mut desk, mut out, mut text) = (Desk::new(), [0; 256], [0; 256]);
+        assert_eq!(desk.open_echo(request, &mut out), Ok(command));
+        out.fill(0);
+        assert_eq!(desk.feed(b"OK\n", &mut text).unwrap().heard, Some((Event::Stray(0), &b"OK"[..])));
+        assert_eq!(desk.feed(&[echo, b"\r\n"].concat(), &mut text).unwrap().heard, Some((Event::Echo, echo)));
+        assert_eq!(desk.feed(&[again, b"\r\n"].concat(), &mut text).unwrap().heard, Some((Event::Stray(3), again)));
+        assert!(desk.is_open());
+        assert_eq!(sort_line(echo), Err(Refusal(3)));
+    }
+}
+
 #[test]
 fn commands() {
     let (asked, answered) = (list("commands/stdin"), list("commands/stdout"));
@@ -129,6 +144,10 @@ fn commands() {
             Some(request) => {
                 let written = request.encode(&mut out);
                 assert_eq!(Desk::new().open(&request, &mut opened), written);
+                assert_eq!(Desk::new().open_echo(&request, &mut opened), written);
+                if let Ok(command) = written {
+                    comes_back(&request, command);
+                }
                 written.map_or_else(refused, |command| command.to_vec())
             }
         };

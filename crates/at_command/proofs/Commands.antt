@@ -114,7 +114,7 @@ module _ (a : Asked) where
   pub body-begins : startsWith (bytes "AT+") (bodyOf a) ≡ true
   body-begins = command a .begins
 
-  -- so neither is empty
+  -- so the body is not empty, nor the command
   pub body-some : 3 ≤ length (bodyOf a)
   body-some = begins-size (bytes "AT+") (bodyOf a) body-begins
 

@@ -141,11 +141,19 @@ module _ (l : List ℕ) (h : reserved l ≡ true) where
   unfolding imeiText
   imei-no = yields-sized _ _ 15 16 l _ refl (λ e. unless _ _ (λ e. other (digits-front l e)))
 
+  -- whatever fallbacks are lent
+  operator-no : (format name : List ℕ) → Refuses (copsText format name l)
+  unfolding copsText reserved
+  operator-no format name = prefixed (bytes "+COPS: ") (λ t. refl) _
+
+  pub no-operator : (format name : List ℕ) → copsText format name l ≡ refused 3
+  no-operator format name = refuses-3 (copsText format name l) (operator-no format name)
+
   named : {A : Type 0} (g : A → Response) (x : Reading A) → Refuses x → Refuses (mapped g x)
   named g x = yields-mapped _ _ g x
 
   pub no-readings : readings l ≡ replicate 13 (refused 3)
-  unfolding readings csqText cpsiText copsText cntpText httptofsText cmgfText cmgrText reserved
+  unfolding readings csqText cpsiText cntpText httptofsText cmgfText cmgrText reserved
   no-readings =
       all-refuse (readings l)
       (then (named _ _ ok-no)
@@ -155,7 +163,7 @@ module _ (l : List ℕ) (h : reserved l ≡ true) where
       (then (named _ _ iccid-no)
       (then (named _ _ (prefixed (bytes "+CSQ: ") (λ t. refl) _))
       (then (named _ _ (prefixed (bytes "+CPSI: ") (λ t. refl) _))
-      (then (named _ _ (prefixed (bytes "+COPS: ") (λ t. refl) _))
+      (then (named _ _ (operator-no (bytes "0") (bytes "")))
       (then (named _ _ (prefixed (bytes "+CNTP: ") (λ t. refl) _))
       (then (named _ _ (prefixed (bytes "+HTTPTOFS: ") (λ t. refl) _))
       (then (named _ _ imei-no)

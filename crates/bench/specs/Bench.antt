@@ -3,8 +3,7 @@ use Prim.Native.Nat.{ℕ}
 use mathlib.Core.Path.{_≡_}
 use mathlib.Core.List.{List, [], _∷_}
 use Rattle.text.specs.Reading.{Reading, read, refused}
-use Rattle.desk.specs.Judge as J
-use Rattle.desk.specs.Desk.{State, Heard, quiet, event, Fed, fed}
+use Rattle.desk.specs.Desk.{State, newState, Heard, quiet, event, Fed, fed}
 
 pub record Left : Type 0 where
   pub answer : ℕ
@@ -17,7 +16,7 @@ abbrev pub left : ℕ → List ℕ → ℕ → List ℕ → List ℕ → Left
 left answer line len text told = record { answer = answer; line = line; len = len; text = text; told = told }
 
 abbrev pub idle : List ℕ → ℕ → State
-idle line len = record { wire = record { bytes = line; len = len }; command = J.idle }
+idle line len = record { wire = record { bytes = line; len = len }; command = newState .command }
 
 -- the desk's own feed: a refusal leaves all as before; else the answer is 1 with an event and 0 without one
 abbrev pub leftBy : Reading Heard → Fed → Left → Left

@@ -24,6 +24,8 @@ pub extern "C" fn bench_feed(
             len: held,
         },
         command: Command::Idle,
+        sent: [0u8; 210],
+        echo: 0,
     };
     let fed = desk.feed(chunk, text);
     let after = fed.desk;

@@ -104,6 +104,10 @@ unfolding after cutter
 view-lf v [] = lf-view v 10 refl
 view-lf v (b ∷ bs) = view-lf (cutOne v b .view) bs
 
+-- bytes that end in an LF are whole lines
+pub whole-lf : (raw : List ℕ) → Whole (raw ++ 10 ∷ [])
+whole-lf raw = view-lf (held []) raw
+
 front-bare : (raw : List ℕ) → 0 < length (bare raw) → getD (bare raw) 0 0 ≡ getD raw 0 0
 unfolding bare
 front-bare raw h =
@@ -123,9 +127,9 @@ module _ (raw : List ℕ) {u : Unsolicited} (n : countOf 10 raw ≡ 0) (e : chec
       ∙ ap (λ (q : Piece). shown (lineOf q) []) (ended-line (bare raw) short (λ k. omega arith))
 
   pub accepted : (s : Plain) → s .wire ≡ held [] → May s (raw ++ 10 ∷ [])
-  accepted s start = accepted-may s (raw ++ 10 ∷ []) (bare raw) start (view-lf (held []) raw) one-line e
+  accepted s start = accepted-may s (raw ++ 10 ∷ []) (bare raw) start (whole-lf raw) one-line e
 
   -- as modems frame it
   pub accepted-framed : (s : Plain) → s .wire ≡ held [] → May s (13 ∷ 10 ∷ raw ++ 10 ∷ [])
   unfolding tells after cutter cutOne bare same startsWith endsWith
-  accepted-framed s start = accepted-may s (13 ∷ 10 ∷ raw ++ 10 ∷ []) (bare raw) start (view-lf (held []) raw) one-line e
+  accepted-framed s start = accepted-may s (13 ∷ 10 ∷ raw ++ 10 ∷ []) (bare raw) start (whole-lf raw) one-line e

@@ -8,8 +8,9 @@ use native.Mathlib.Omega.{arith}
 use lib.ListN.{length, take, drop, getD, set, length-append}
 use lib.Seq.{length-take-le, take-suc, take-append-seam, drop-append-seam, append-snoc, set-split, take-suc-set}
 use lib.Dec.{ltb, eqb}
-use borrow.Author.Tests.{lt-ltb, le-ltb, ltb-false, eq-eqb, ne-eqb, eqb-true, eqb-false}
+use borrow.Author.Tests.{lt-ltb, le-ltb, ltb-false, eq-eqb, ne-eqb}
 use Rattle.text.specs.Bytes.{bytes, same, startsWith, endsWith}
+use Rattle.text.proofs.Begins.{same-is}
 use Rattle.text.proofs.Finding.{other-length}
 use Rattle.desk.specs.Cut.{View, dropping, held, Piece, nothing, blank, overlong, line, Cut, bare, long, isPrompt, ended, cutOne}
 use Rattle.desk.specs.Desk.{Tray, viewOf, lenOf, laidBytes, layOne}
@@ -196,8 +197,7 @@ module _ (s : List ℕ) (full : length s ≡ 257) where
 
 -- "> " at a line's start
 pub prompt-length : (l : List ℕ) → isPrompt l ≡ true → length l ≡ 2
-prompt-length l e =
-    ⊎-elim (λ f. eqb-true (length l) 2 f) (λ f. let z : true ≡ false = sym e ∙ sym (other-length l (bytes "> ") (eqb-false (length l) 2 f)) in never (cc)) (both (eqb (length l) 2))
+prompt-length l e = ap length (same-is l (bytes "> ") e)
 
 module _ (s : List ℕ) (full : length s ≡ 257) (len b : ℕ) where
   abbrev Prompt : Bool

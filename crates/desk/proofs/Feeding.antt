@@ -1,24 +1,24 @@
 -- Laws of a feed: a line has at most 256 bytes, what is made of a line, and a search with its ruling is the feed.
 use Prim.Native.Nat.{ℕ, _+_, _≤_, _<_}
 use mathlib.Core.Path.{_≡_, refl, sym, ap, _∙_}
+use mathlib.Core.Bool.{true, false}
 use mathlib.Core.Logic.{⊎-elim}
 use mathlib.Core.List.{List, [], _∷_, _++_}
-use mathlib.Core.Option.{Option, none, some}
+use mathlib.Core.Option.{Option, none, some, Option·map}
 use native.Mathlib.Omega.{arith}
 use lib.ListN.{length, take, drop, length-take}
 use lib.Seq.{length-take-le}
-use lib.Dec.{eqb}
+use lib.Dec.{ltb, eqb}
 use borrow.Author.Tests.{lt-ltb, le-ltb, ltb-false}
 use Rattle.text.specs.Reading.{Reading, read, refused}
 use Rattle.desk.specs.Cut.{View, dropping, held, bare, long, isPrompt, ended, cutOne}
-use Rattle.trial.specs.Sort.{lineSort}
-use Rattle.desk.specs.Machine.{Stop, onward, feed}
+use Rattle.desk.specs.Machine.{Stop, onward, feed, Ruled, commandOf}
 use Rattle.desk.specs.Lines.{Line, overlong, line, lineOf}
 use Rattle.desk.specs.Judge as J
-use Rattle.desk.specs.Judge.{Command, Ruling, table, judge}
+use Rattle.desk.specs.Judge.{Seen, judge}
 use Rattle.desk.specs.Desk as H
-use Rattle.desk.specs.Desk.{Tray, State, viewOf, layOne, buffered, Heard, event, fed}
-use Rattle.desk.specs.Search.{foundAfter, Tells}
+use Rattle.desk.specs.Desk.{Tray, Kept, State, viewOf, layOne, buffered, judgeKept, Heard, event, fed}
+use Rattle.desk.specs.Search.{foundAfter, Judges, Tells}
 use Rattle.desk.specs.Says.{pieceSays, sizeOf}
 use Rattle.desk.specs.declared.cutter.Piece.{Piece as PieceCode}
 use Rattle.desk.specs.declared.cutter.Piece.the-variants as P
@@ -74,20 +74,19 @@ found-size t chunk p s g e full =
 
 -- ---- what is made of a line
 
-module _ (c : Command) (n : ℕ) (text : List ℕ) where
-  pub ruled-none : Tells c none n text c (read (H.quiet n)) text
+module _ (k : Kept) (n : ℕ) (text : List ℕ) where
+  pub ruled-none : Tells k none n text k (read (H.quiet n)) text
   ruled-none = record { commands = refl; answers = refl; texts = refl }
 
-  pub ruled-overlong : Tells c (some overlong) n text c (read (event J.Overlong n 0)) text
-  unfolding judge
-  ruled-overlong = record { commands = refl; answers = refl; texts = refl }
+  pub ruled-overlong : {k′ : Kept} → k′ ≡ judgeKept k overlong .command → Tells k (some overlong) n text k′ (read (event J.Overlong n 0)) text
+  unfolding judgeKept judge
+  ruled-overlong e = record { commands = e; answers = refl; texts = refl }
 
-  pub ruled-line : (s : List ℕ) (size : ℕ) {j : Ruling} {after : List ℕ} → size ≤ length s → j ≡ table c (lineSort (take size s)) → after ≡ take size s ++ drop size text
-      → Tells c (some (line (take size s))) n text (j .command) (read (event (j .event) n size)) after
-  unfolding judge
-  ruled-line s size h e f =
-      let k = length-take-le size s h in
-      record { commands = ap (λ (x : Ruling). x .command) e; answers = rw (k, e); texts = rw k f }
+  pub ruled-line : (s : List ℕ) (size : ℕ) {k′ : Kept} {e : J.Event} {after : List ℕ} → size ≤ length s → Judges k (take size s) k′ e → after ≡ take size s ++ drop size text
+      → Tells k (some (line (take size s))) n text k′ (read (event e n size)) after
+  ruled-line s size h j f =
+      let few = length-take-le size s h in
+      record { commands = ap (λ (x : Ruled Kept Seen). x .command) j; answers = rw (← j, few); texts = rw (← j, few) f }
 
 -- the line is laid at the front of the text buffer
 pub laid-front : (s text : List ℕ) (size e : ℕ) (after : List ℕ) → size ≤ length s → size ≤ length text → LayKeeps (take size s) 0 text e after → after ≡ take size s ++ drop size text
@@ -105,9 +104,22 @@ fed-refused s chunk text h = rw (lt-ltb (length text) 256 h)
 found-whole : (t : Tray) (chunk : List ℕ) → foundAfter 0 t chunk ≡ feed buffered t chunk
 found-whole t chunk = let e : 0 + feed buffered t chunk .taken ≡ feed buffered t chunk .taken = omega arith in rw e
 
-pub fed-ruled : (s : State) (chunk text : List ℕ) {f : Stop Tray Line} {c : Command} {answer : Reading Heard} {after : List ℕ} → f ≡ foundAfter 0 (s .wire) chunk → 256 ≤ length text
-    → Tells (s .command) (f .tell) (f .taken) text c answer after
-    → record { state = record { wire = f .state; command = c }; answer = answer; text = after } ≡ fed s chunk text
+pub fed-ruled : (s : State) (chunk text : List ℕ) {f : Stop Tray Line} {k : Kept} {answer : Reading Heard} {after : List ℕ} → f ≡ foundAfter 0 (s .wire) chunk → 256 ≤ length text
+    → Tells (s .command) (f .tell) (f .taken) text k answer after
+    → record { state = record { wire = f .state; command = k }; answer = answer; text = after } ≡ fed s chunk text
 unfolding fed
 fed-ruled s chunk text e h r =
-    rw (r .commands, r .answers, r .texts, e ∙ found-whole (s .wire) chunk, le-ltb (length text) 256 h, judged-feed (judge lineSort) buffered chunk s)
+    rw (r .commands, r .answers, r .texts, e ∙ found-whole (s .wire) chunk, le-ltb (length text) 256 h, judged-feed judgeKept buffered chunk s)
+
+-- ---- the command after a feed is the one before it, or the one after a line
+
+pub fed-command : (P : Kept → Type 0) (s : State) (chunk text : List ℕ) → P (s .command) → ((l : Line) → P (judgeKept (s .command) l .command)) → P (fed s chunk text .state .command)
+unfolding fed
+fed-command P s chunk text p q =
+    ⊎-elim (λ (f : ltb (length text) 256 ≡ true). rw f p)
+    (λ (f : ltb (length text) 256 ≡ false). rw (f, judged-feed judgeKept buffered chunk s) (by (feed buffered (s .wire) chunk .tell)))
+    (both (ltb (length text) 256))
+  where
+    by : (o : Option Line) → P (commandOf (s .command) (Option·map (judgeKept (s .command)) o))
+    by none = p
+    by (some l) = q l

@@ -1,35 +1,35 @@
 -- Demand 3 is not empty: from every desk that is idle and holds nothing there is a session of every request that its writer does not refuse, and it takes any bytes.
 use Prim.Native.Nat.{ℕ, zero, suc, _≤_}
 use mathlib.Core.Path.{_≡_, refl, sym, ap, subst, _∙_}
-use mathlib.Core.Bool.{Bool, true, false, cond}
+use mathlib.Core.Bool.{true, false}
 use mathlib.Core.List.{List, [], _∷_, _++_}
 use native.Mathlib.Omega.{arith}
-use lib.Dec.{ltb}
 use lib.ListN.{length, take, drop, replicate, length-drop, take-append-drop}
 use borrow.Author.Tests.{le-ltb, leb-true}
 use Rattle.text.specs.Reading.{Reading, read, refused}
 use Rattle.at_command.specs.Kind.{Kind, genericOk, simError, writePrompt, closeOk, iccid, signalQuality, systemInfo, operatorInfo, networkTime, downloadInfo, imei, smsMessageFormat, smsMessage}
 use Rattle.at_command.specs.Request.{getSignalQuality, commandOf, encodeReading}
-use Rattle.at_command.specs.says.Request.{asked, awaitedBy, kindSays, encodedSays}
+use Rattle.at_command.specs.says.Request.{asked, kindSays, encodedSays}
 use Rattle.at_command.specs.declared.request.Request.{Request}
 use Rattle.at_command.specs.declared.request.Request.the-variants.{GetSignalQuality}
-use Rattle.at_command.proofs.OneRequest.{encoded, kind, any-texts}
-use Rattle.trial.specs.Sort.{lineSort}
+use Rattle.at_command.proofs.OneRequest.{encoded, kind}
 use Rattle.desk.specs.Machine.{Stop, feed}
 use Rattle.desk.specs.Judge as J
-use Rattle.desk.specs.Judge.{Seen, Command, awaiting, isOpen, judge}
-use Rattle.desk.specs.Desk.{State, viewOf, buffered, desk, Heard, quiet, event, heard, fed, isClear, opened}
+use Rattle.desk.specs.Judge.{Seen, Command, isOpen}
+use Rattle.desk.specs.Desk.{State, viewOf, commandKept, keep, judgeKept, desk, Heard, quiet, event, fed, isClear, opened}
 use Rattle.desk.specs.Says.{commandSays, eventSays, answerSays, stateOf}
-use Rattle.desk.specs.Keeps.{openedBy}
+use Rattle.desk.specs.Keeps.{commandBy, openedBy}
+use Rattle.desk.specs.Rules.{Mode}
 use Rattle.desk.specs.Demand.{Turn, Openings, Feeds, accepts, turnOf, bytesOf, Run, ends, feeds, Lives}
 use Rattle.desk.specs.Calls as By
 use Rattle.desk.specs.Calls.{DeskOpens, DeskFeeds}
 use Rattle.desk.specs.declared.Desk.{Desk}
 use Rattle.desk.specs.declared.command.Command.{Command as CommandCode}
 use Rattle.desk.specs.declared.command.Command.the-variants.{Idle, One, Two}
-use Rattle.desk.proofs.Machine.{judged-feed, feed-some}
-use Rattle.desk.proofs.Judging.{Few, rule-few}
-use Rattle.desk.proofs.Opening.{answers-few}
+use Rattle.desk.proofs.Machine.{feed-some}
+use Rattle.desk.proofs.Judging.{Few, judge-few}
+use Rattle.desk.proofs.Feeding.{fed-command}
+use Rattle.desk.proofs.Commands.{command-few}
 use Rattle.desk.proofs.Demand.{Sound, desk-sound}
 use Rattle.desk.proofs.One.{commandIn, eventIn, answerIn, deskIn}
 
@@ -70,13 +70,9 @@ module _ (Opens : Openings) (Fed : Feeds) (sound : Sound Opens Fed) (Good : Stat
 
 -- ---- a feed leaves at most as many answers as it finds
 
-pub fed-few : (s : State) (chunk text : List ℕ) → Few (s .command) (fed s chunk text .state .command)
-unfolding fed
-fed-few s chunk text = go (ltb (length text) 256)
-  where
-    go : (t : Bool) → Few (s .command) (cond t (record { state = s; answer = refused 10; text = text }) (heard (feed desk s chunk) text) .state .command)
-    go true = omega arith
-    go false = rw (judged-feed (judge lineSort) buffered chunk s) (rule-few (s .command) (feed buffered (s .wire) chunk .tell))
+pub fed-few : (s : State) (chunk text : List ℕ) → Few (s .command .awaited) (fed s chunk text .state .command .awaited)
+unfolding judgeKept
+fed-few s chunk text = fed-command (λ k. Few (s .command .awaited) (k .awaited)) s chunk text (omega arith) (judge-few (commandKept (s .command)))
 
 -- a feed with room for the line is not refused
 pub fed-accepts : (s : State) (chunk text : List ℕ) → 256 ≤ length text → accepts (fed s chunk text .answer) ≡ true
@@ -100,7 +96,7 @@ kind-says imei = refl
 kind-says smsMessageFormat = refl
 kind-says smsMessage = refl
 
-command-says : (ks : List Kind) → length ks ≤ 2 → commandSays (commandIn ks) ≡ awaiting ks
+command-says : (ks : List Kind) → length ks ≤ 2 → commandSays (commandIn ks) .awaited ≡ ks
 unfolding commandIn
 command-says [] h = refl
 command-says (a ∷ []) h = rw (kind-says a)
@@ -109,7 +105,7 @@ command-says (a ∷ b ∷ k ∷ ks) h = absurd (omega arith)
 
 state-says : (s : State) → length (s .command .awaited) ≤ 2 → stateOf (deskIn s) ≡ s
 unfolding deskIn
-state-says s h = ap (λ (c : Command). record { wire = s .wire; command = c }) (command-says (s .command .awaited) h)
+state-says s h = ap (λ (ks : List Kind). record { wire = s .wire; command = record { sent = s .command .sent; size = s .command .size; awaited = ks } }) (command-says (s .command .awaited) h)
 
 event-says : (e : J.Event) → eventSays (eventIn e) ≡ e
 unfolding eventIn
@@ -120,6 +116,7 @@ event-says J.Taken = refl
 event-says J.Done = refl
 event-says J.Short = refl
 event-says J.Unsolicited = refl
+event-says J.Echo = refl
 
 answer-says : (a : Reading Heard) → answerSays (answerIn a) ≡ a
 unfolding answerIn
@@ -156,25 +153,25 @@ serve text room d chunk =
     }
 
 -- an open of an idle desk that holds nothing, with a command that the writer gives
-module _ (s : State) (c : Command) (w out : List ℕ) (closed : isOpen (s .command) ≡ false) (clear : isClear (viewOf (s .wire)) ≡ true) where
+module _ (s : State) (c : Command) (w out : List ℕ) (closed : isOpen (commandKept (s .command)) ≡ false) (clear : isClear (viewOf (s .wire)) ≡ true) where
   pub open-accepts : {written : Reading (List ℕ)} → written ≡ read w
-      → (opened s c written out .answer ≡ read (length w)) × (opened s c written out .state ≡ record { wire = s .wire; command = c })
+      → (opened s c written out .answer ≡ read (length w)) × (opened s c written out .state ≡ record { wire = s .wire; command = keep c (s .command) })
   unfolding opened
   open-accepts e = rw (e, closed, clear) (refl, refl)
 
-pub desk-lives : (d : Desk) (request : Request) (first second out text command : List ℕ) → isOpen (stateOf d .command) ≡ false → isClear (viewOf (stateOf d .wire)) ≡ true
-    → encodeReading (asked request first second) (length out) ≡ read command → 256 ≤ length text → Lives DeskOpens DeskFeeds (stateOf d) (awaiting (awaitedBy request))
-desk-lives d request first second out text command closed clear e room =
-    let o = openedBy (stateOf d) request first second out in
-    let made = open-accepts (stateOf d) (awaiting (awaitedBy request)) command out closed clear e in
-    let few : length (o .state .command .awaited) ≤ 2 = rw (made .1, ← any-texts request first second) (answers-few (asked request first second)) in
+pub desk-lives : (mode : Mode) (d : Desk) (request : Request) (first second out text command : List ℕ) → isOpen (commandKept (stateOf d .command)) ≡ false → isClear (viewOf (stateOf d .wire)) ≡ true
+    → encodeReading (asked request first second) (length out) ≡ read command → 256 ≤ length text → Lives DeskOpens DeskFeeds (stateOf d) (commandBy mode request first second)
+desk-lives mode d request first second out text command closed clear e room =
+    let o = openedBy mode (stateOf d) request first second out in
+    let made = open-accepts (stateOf d) (commandBy mode request first second) command out closed clear e in
+    let few : length (o .state .command .awaited) ≤ 2 = rw (made .1) (command-few mode (asked request first second)) in
     lives DeskOpens DeskFeeds desk-sound Desks (λ s chunk g. subst (λ (x : State). Served DeskFeeds Desks x chunk) (g .is) (serve text room (g .desk) chunk)) (stateOf d) (stateOf (deskIn (o .state)))
-    (awaiting (awaitedBy request))
-    (By.value d request first second out (record { desk = deskIn (o .state); answer = encoded (o .answer) }) (o .out) (rw (state-says (o .state) few, encoded-says (o .answer)))
+    (commandBy mode request first second)
+    (By.value mode d request first second out (record { desk = deskIn (o .state); answer = encoded (o .answer) }) (o .out) (rw (state-says (o .state) few, encoded-says (o .answer)))
     (ap accepts (encoded-says (o .answer) ∙ made .0)))
     (record { desk = deskIn (o .state); is = refl })
 
 -- for one, AT+CSQ with buffers of 256 bytes, from any such desk
-pub csq-lives : (d : Desk) → isOpen (stateOf d .command) ≡ false → isClear (viewOf (stateOf d .wire)) ≡ true
-    → Lives DeskOpens DeskFeeds (stateOf d) (awaiting (awaitedBy GetSignalQuality))
-csq-lives d closed clear = desk-lives d GetSignalQuality [] [] (replicate 256 0) (replicate 256 0) (commandOf getSignalQuality) closed clear refl (leb-true 256 256 refl)
+pub csq-lives : (mode : Mode) (d : Desk) → isOpen (commandKept (stateOf d .command)) ≡ false → isClear (viewOf (stateOf d .wire)) ≡ true
+    → Lives DeskOpens DeskFeeds (stateOf d) (commandBy mode GetSignalQuality [] [])
+csq-lives mode d closed clear = desk-lives mode d GetSignalQuality [] [] (replicate 256 0) (replicate 256 0) (commandOf getSignalQuality) closed clear refl (leb-true 256 256 refl)

@@ -11,8 +11,9 @@ use Rattle.at_command.specs.declared.request.Encoded.{Encoded}
 use Rattle.at_command.proofs.OneRequest.{encoded, encoded-back, kind, kind-back}
 use Rattle.desk.specs.Judge as J
 use Rattle.desk.specs.Desk.{State, Heard, quiet, event, Fed, Opened}
-use Rattle.desk.specs.Says.{commandSays, eventSays, answerSays, stateOf}
-use Rattle.desk.specs.Keeps.{NewKeeps, ResetKeeps, FeedKeeps, FeedLentKeeps, FeedOnKeeps, OpenKeeps, OpenLentKeeps, OpenOnKeeps}
+use Rattle.desk.specs.Says.{commandSays, eventSays, answerSays, stateOf, openedPartsSays}
+use Rattle.desk.specs.Keeps.{NewKeeps, ResetKeeps, FeedKeeps, FeedLentKeeps, FeedOnKeeps, OpenKeeps, OpenLentKeeps, OpenOnKeeps, OpenEchoOnKeeps}
+use Rattle.desk.specs.Rules.{Mode}
 use Rattle.desk.specs.declared.Event.{Event}
 use Rattle.desk.specs.declared.Event.the-variants as E
 use Rattle.desk.specs.declared.Desk.{Desk}
@@ -47,6 +48,7 @@ eventIn J.Taken = E.Taken
 eventIn J.Done = E.Done
 eventIn J.Short = E.Short
 eventIn J.Unsolicited = E.Unsolicited
+eventIn J.Echo = E.Echo
 
 event-back : (e : Event) → eventIn (eventSays e) ≡ e
 unfolding eventIn
@@ -57,6 +59,7 @@ event-back E.Taken = refl
 event-back E.Done = refl
 event-back E.Short = refl
 event-back E.Unsolicited = refl
+event-back E.Echo = refl
 
 unfoldable pub answerIn : Reading Heard → FedAnswer
 answerIn (refused k) = F.Refused k
@@ -70,19 +73,19 @@ answer-back (F.Quiet n) = refl
 answer-back (F.Heard e n size) = ap (λ (x : Event). F.Heard x n size) (event-back e)
 
 unfoldable pub deskIn : State → Desk
-deskIn s = record { cutter = record { line = s .wire .bytes; len = s .wire .len }; command = commandIn (s .command .awaited) }
+deskIn s = record { cutter = record { line = s .wire .bytes; len = s .wire .len }; command = commandIn (s .command .awaited); sent = s .command .sent; echo = s .command .size }
 
 desk-back : (d : Desk) → deskIn (stateOf d) ≡ d
 unfolding deskIn
-desk-back d = ap (λ (c : Command). record { cutter = d .cutter; command = c }) (command-back (d .command))
+desk-back d = ap (λ (c : Command). record { cutter = d .cutter; command = c; sent = d .sent; echo = d .echo }) (command-back (d .command))
 
 -- ---- one answer
 
 pub same-desk : (d d′ : Desk) → stateOf d ≡ stateOf d′ → d ≡ d′
 same-desk d d′ e = sym (desk-back d) ∙ ap deskIn e ∙ desk-back d′
 
-pub same-command : (c c′ : Command) → commandSays c ≡ commandSays c′ → c ≡ c′
-same-command c c′ e = sym (command-back c) ∙ ap (λ (x : J.Command). commandIn (x .awaited)) e ∙ command-back c′
+pub same-command : (c c′ : Command) → commandSays c .awaited ≡ commandSays c′ .awaited → c ≡ c′
+same-command c c′ e = sym (command-back c) ∙ ap commandIn e ∙ command-back c′
 
 same-answer : (a b : FedAnswer) → answerSays a ≡ answerSays b → a ≡ b
 same-answer a b e = sym (answer-back a) ∙ ap answerIn e ∙ answer-back b
@@ -100,32 +103,46 @@ pub one-reset : (d r q : Desk) → ResetKeeps d r → ResetKeeps d q → r ≡ q
 one-reset d r q e f = same-desk r q (e ∙ sym f)
 
 -- with the output buffer
--- one answer: Desk::open
-pub one-open : (d : Desk) (request : Request) (first second out : List ℕ) (r q : OpenedCode) (out′ out″ : List ℕ) → OpenKeeps d request first second out r out′
-    → OpenKeeps d request first second out q out″ → (r ≡ q) × (out′ ≡ out″)
-one-open d request first second out r q out′ out″ e f =
+-- one answer: Desk::open, Desk::open_echo
+pub one-open : (mode : Mode) (d : Desk) (request : Request) (first second out : List ℕ) (r q : OpenedCode) (out′ out″ : List ℕ) → OpenKeeps mode d request first second out r out′
+    → OpenKeeps mode d request first second out q out″ → (r ≡ q) × (out′ ≡ out″)
+one-open mode d request first second out r q out′ out″ e f =
     let g = e ∙ sym f in
     let desk = same-desk (r .desk) (q .desk) (ap (λ (y : Opened). y .state) g) in
     let answer = same-encoded (r .answer) (q .answer) (ap (λ (y : Opened). y .answer) g) in
     (rw (desk, answer), ap (λ (y : Opened). y .out) g)
 
 -- with the desk behind the reference and the output buffer
--- one answer: Desk::open_lent
-pub one-open-lent : (d : Desk) (request : Request) (first second out : List ℕ) (d′ d″ : Desk) (r q : Encoded) (out′ out″ : List ℕ)
-    → OpenLentKeeps d request first second out d′ r out′ → OpenLentKeeps d request first second out d″ q out″ → (d′ ≡ d″) × (r ≡ q) × (out′ ≡ out″)
-one-open-lent d request first second out d′ d″ r q out′ out″ e f =
+-- one answer: Desk::open_lent, Desk::open_echo_lent
+pub one-open-lent : (mode : Mode) (d : Desk) (request : Request) (first second out : List ℕ) (d′ d″ : Desk) (r q : Encoded) (out′ out″ : List ℕ)
+    → OpenLentKeeps mode d request first second out d′ r out′ → OpenLentKeeps mode d request first second out d″ q out″ → (d′ ≡ d″) × (r ≡ q) × (out′ ≡ out″)
+one-open-lent mode d request first second out d′ d″ r q out′ out″ e f =
     let g = e ∙ sym f in
     (same-desk d′ d″ (ap (λ (y : Opened). y .state) g), same-encoded r q (ap (λ (y : Opened). y .answer) g), ap (λ (y : Opened). y .out) g)
 
+same-parts : (r q : OpenedParts) {line sent sent′ out out′ : List ℕ} {len : ℕ} → openedPartsSays r line len sent out ≡ openedPartsSays q line len sent′ out′ → r ≡ q
+same-parts r q g =
+    let after = same-command (r .command) (q .command) (ap (λ (y : Opened). y .state .command .awaited) g) in
+    let size : r .echo ≡ q .echo = ap (λ (y : Opened). y .state .command .size) g in
+    let answer = same-encoded (r .answer) (q .answer) (ap (λ (y : Opened). y .answer) g) in
+    rw (after, size, answer)
+
 -- with the output buffer
 -- one answer: open_on
-pub one-open-on : (len : ℕ) (command : Command) (request : Request) (first second out : List ℕ) (r q : OpenedParts) (out′ out″ : List ℕ)
-    → OpenOnKeeps len command request first second out r out′ → OpenOnKeeps len command request first second out q out″ → (r ≡ q) × (out′ ≡ out″)
-one-open-on len command request first second out r q out′ out″ e f =
+pub one-open-on : (len : ℕ) (command : Command) (echo : ℕ) (request : Request) (first second out : List ℕ) (r q : OpenedParts) (out′ out″ : List ℕ)
+    → OpenOnKeeps len command echo request first second out r out′ → OpenOnKeeps len command echo request first second out q out″ → (r ≡ q) × (out′ ≡ out″)
+one-open-on len command echo request first second out r q out′ out″ e f =
+    let g = e (replicate 257 0) [] refl ∙ sym (f (replicate 257 0) [] refl) in
+    (same-parts r q g, ap (λ (y : Opened). y .out) g)
+
+-- with the bytes that are kept and the output buffer
+-- one answer: open_echo_on
+pub one-open-echo-on : (len : ℕ) (command : Command) (sent : List ℕ) (echo : ℕ) (request : Request) (first second out : List ℕ) (r q : OpenedParts) (sent′ sent″ out′ out″ : List ℕ)
+    → OpenEchoOnKeeps len command sent echo request first second out r sent′ out′ → OpenEchoOnKeeps len command sent echo request first second out q sent″ out″
+    → (r ≡ q) × (sent′ ≡ sent″) × (out′ ≡ out″)
+one-open-echo-on len command sent echo request first second out r q sent′ sent″ out′ out″ e f =
     let g = e (replicate 257 0) refl ∙ sym (f (replicate 257 0) refl) in
-    let after = same-command (r .command) (q .command) (ap (λ (y : Opened). y .state .command) g) in
-    let answer = same-encoded (r .answer) (q .answer) (ap (λ (y : Opened). y .answer) g) in
-    (rw (after, answer), ap (λ (y : Opened). y .out) g)
+    (same-parts r q g, ap (λ (y : Opened). y .state .command .sent) g, ap (λ (y : Opened). y .out) g)
 
 -- with the text buffer
 -- one answer: Desk::feed
@@ -146,11 +163,12 @@ one-feed-lent d chunk text d′ d″ r q text′ text″ e f =
 
 -- with the lent array and the text buffer
 -- one answer: feed_on
-pub one-feed-on : (line : List ℕ) (len : ℕ) (command : Command) (chunk text : List ℕ) (r q : FedParts) (line′ line″ text′ text″ : List ℕ)
-    → FeedOnKeeps line len command chunk text r line′ text′ → FeedOnKeeps line len command chunk text q line″ text″ → (r ≡ q) × (line′ ≡ line″) × (text′ ≡ text″)
-one-feed-on line len command chunk text r q line′ line″ text′ text″ e f =
+pub one-feed-on : (line : List ℕ) (len : ℕ) (command : Command) (sent : List ℕ) (echo : ℕ) (chunk text : List ℕ) (r q : FedParts) (line′ line″ text′ text″ : List ℕ)
+    → FeedOnKeeps line len command sent echo chunk text r line′ text′ → FeedOnKeeps line len command sent echo chunk text q line″ text″ → (r ≡ q) × (line′ ≡ line″) × (text′ ≡ text″)
+one-feed-on line len command sent echo chunk text r q line′ line″ text′ text″ e f =
     let g = e ∙ sym f in
     let size : r .len ≡ q .len = ap (λ (y : Fed). y .state .wire .len) g in
-    let after = same-command (r .command) (q .command) (ap (λ (y : Fed). y .state .command) g) in
+    let after = same-command (r .command) (q .command) (ap (λ (y : Fed). y .state .command .awaited) g) in
+    let awaited : r .echo ≡ q .echo = ap (λ (y : Fed). y .state .command .size) g in
     let answer = same-answer (r .answer) (q .answer) (ap (λ (y : Fed). y .answer) g) in
-    (rw (size, after, answer), ap (λ (y : Fed). y .state .wire .bytes) g, ap (λ (y : Fed). y .text) g)
+    (rw (size, after, awaited, answer), ap (λ (y : Fed). y .state .wire .bytes) g, ap (λ (y : Fed). y .text) g)

@@ -9,7 +9,7 @@ use lib.ListN.{length, replicate}
 use lib.Dec.{ltb}
 use borrow.Author.Tests.{ltb-true}
 use Rattle.text.specs.Bytes.{bytes, same, startsWith, endsWith}
-use Rattle.text.specs.Reading.{Reading, read, refused}
+use Rattle.text.specs.Reading.{read, refused}
 use Rattle.at_command.specs.says.Request.{encodedSays}
 use Rattle.at_command.specs.declared.request.Request.{Request}
 use Rattle.at_command.specs.declared.request.Encoded.{Encoded}
@@ -18,11 +18,11 @@ use Rattle.trial.specs.Sort.{lineSort}
 use Rattle.desk.specs.Machine.{tells, feed, eventOf}
 use Rattle.desk.specs.Lines as L
 use Rattle.desk.specs.Lines.{Line, overlong, cutter, linesOf}
-use Rattle.desk.specs.Judge.{Overlong, Seen, Command, idle, judge}
-use Rattle.desk.specs.Rules.{fresh}
-use Rattle.desk.specs.Desk.{State, buffered, viewed, desk, newState, resetState, quiet, event, heardOf, textOf, Fed, fed, Opened, allowed, openedWith, opened}
-use Rattle.desk.specs.Says.{answerSays, stateIn, stateOf, fedSays, partsSays, openedSays, openedPartsSays}
-use Rattle.desk.specs.Keeps.{FeedKeeps, FeedLentKeeps, FeedOnKeeps, OpenKeeps, OpenLentKeeps, OpenOnKeeps}
+use Rattle.desk.specs.Judge.{Overlong, Seen, idle, judge}
+use Rattle.desk.specs.Rules.{fresh, Mode}
+use Rattle.desk.specs.Desk.{Kept, commandKept, judgeKept, State, buffered, viewed, desk, newState, resetState, quiet, event, heardOf, textOf, Fed, fed}
+use Rattle.desk.specs.Says.{answerSays, stateIn, stateOf, fedSays, partsSays}
+use Rattle.desk.specs.Keeps.{FeedKeeps, FeedLentKeeps, FeedOnKeeps, OpenKeeps, OpenLentKeeps, OpenOnKeeps, OpenEchoOnKeeps}
 use Rattle.desk.specs.declared.Desk.{Desk}
 use Rattle.desk.specs.declared.command.Command.{Command as CommandCode}
 use Rattle.desk.specs.declared.feed.Fed.{Fed as FedCode}
@@ -33,7 +33,9 @@ use Rattle.desk.specs.declared.open.OpenedParts.{OpenedParts}
 use Rattle.text.proofs.Tests.{both, never}
 use Rattle.desk.proofs.One.{same-desk, same-command}
 use Rattle.desk.proofs.Machine.{judged-feed}
-use Rattle.desk.proofs.Judging.{table-event}
+use Rattle.desk.proofs.Judging.{ruling-event}
+use Rattle.desk.proofs.Feeding.{fed-command}
+use Rattle.desk.proofs.Opening.{opened-same}
 
 -- ---- a refusing call changes neither the desk nor a lent byte: by value, of a lent desk, and of a desk that is lent in parts
 
@@ -44,16 +46,6 @@ fed-stays s chunk text e =
     ⊎-elim (λ (f : ltb (length text) 256 ≡ true). (rw f, ltb-true (length text) 256 f))
     (λ (f : ltb (length text) 256 ≡ false). let g = rw f at e in never (cc))
     (both (ltb (length text) 256))
-
-with-stays : (s : State) (c : Command) (w : Reading (List ℕ)) (out : List ℕ) {k : ℕ} → openedWith s c w out .answer ≡ refused k
-    → (openedWith s c w out .state ≡ s) × (openedWith s c w out .out ≡ out)
-with-stays s c (read w) out e = never (cc)
-with-stays s c (refused j) out e = (refl, refl)
-
-pub opened-stays : (s : State) (c : Command) (w : Reading (List ℕ)) (out : List ℕ) {k : ℕ} → opened s c w out .answer ≡ refused k
-    → (opened s c w out .state ≡ s) × (opened s c w out .out ≡ out)
-unfolding opened
-opened-stays s c w out e = with-stays s c (allowed s w) out e
 
 module _ (s : State) (chunk text : List ℕ) (f : Fed) (is : f ≡ fed s chunk text) {k : ℕ} (e : f .answer ≡ refused k) where
   pub fed-same : (f .state ≡ s) × (f .text ≡ text)
@@ -68,39 +60,59 @@ pub feed-lent-refused : (d : Desk) (chunk text : List ℕ) (d′ : Desk) (r : Fe
     → (d′ ≡ d) × (text′ ≡ text)
 feed-lent-refused d chunk text d′ r text′ kept e = feed-refused d chunk text (record { desk = d′; answer = r }) text′ kept e
 
-pub feed-on-refused : (line : List ℕ) (len : ℕ) (command : CommandCode) (chunk text : List ℕ) (r : FedParts) (line′ text′ : List ℕ) {k : ℕ}
-    → FeedOnKeeps line len command chunk text r line′ text′ → answerSays (r .answer) ≡ refused k → (line′ ≡ line) × (r .len ≡ len) × (r .command ≡ command) × (text′ ≡ text)
-feed-on-refused line len command chunk text r line′ text′ kept e =
-    let s = fed-same (stateIn line len command) chunk text (partsSays r line′ text′) kept e in
-    (ap (λ (x : State). x .wire .bytes) (s .0), ap (λ (x : State). x .wire .len) (s .0), same-command (r .command) command (ap (λ (x : State). x .command) (s .0)), s .1)
+pub feed-on-refused : (line : List ℕ) (len : ℕ) (command : CommandCode) (sent : List ℕ) (echo : ℕ) (chunk text : List ℕ) (r : FedParts) (line′ text′ : List ℕ) {k : ℕ}
+    → FeedOnKeeps line len command sent echo chunk text r line′ text′ → answerSays (r .answer) ≡ refused k
+    → (line′ ≡ line) × (r .len ≡ len) × (r .command ≡ command) × (r .echo ≡ echo) × (text′ ≡ text)
+feed-on-refused line len command sent echo chunk text r line′ text′ kept e =
+    let s = fed-same (stateIn line len command sent echo) chunk text (partsSays r line′ sent text′) kept e in (
+      ap (λ (x : State). x .wire .bytes) (s .0),
+      ap (λ (x : State). x .wire .len) (s .0),
+      same-command (r .command) command (ap (λ (x : State). x .command .awaited) (s .0)),
+      ap (λ (x : State). x .command .size) (s .0),
+      s .1,
+    )
 
-module _ (s : State) (c : Command) (w : Reading (List ℕ)) (out : List ℕ) (o : Opened) (is : o ≡ opened s c w out) {k : ℕ} (e : o .answer ≡ refused k) where
-  pub opened-same : (o .state ≡ s) × (o .out ≡ out)
-  opened-same = let same = opened-stays s c w out (ap (λ (x : Opened). x .answer) (sym is) ∙ e) in
-      (ap (λ (x : Opened). x .state) is ∙ same .0, ap (λ (x : Opened). x .out) is ∙ same .1)
-
-pub open-refused : (d : Desk) (request : Request) (first second out : List ℕ) (r : OpenedCode) (out′ : List ℕ) {k : ℕ} → OpenKeeps d request first second out r out′
+-- in both modes
+pub open-refused : (mode : Mode) (d : Desk) (request : Request) (first second out : List ℕ) (r : OpenedCode) (out′ : List ℕ) {k : ℕ} → OpenKeeps mode d request first second out r out′
     → encodedSays (r .answer) ≡ refused k → (r .desk ≡ d) × (out′ ≡ out)
-open-refused d request first second out r out′ kept e = let s = opened-same (stateOf d) _ _ out (openedSays r out′) kept e in (same-desk (r .desk) d (s .0), s .1)
+open-refused mode d request first second out r out′ kept e = let s = opened-same (stateOf d) out _ _ kept e in (same-desk (r .desk) d (s .0), s .1)
 
-pub open-lent-refused : (d : Desk) (request : Request) (first second out : List ℕ) (d′ : Desk) (r : Encoded) (out′ : List ℕ) {k : ℕ}
-    → OpenLentKeeps d request first second out d′ r out′ → encodedSays r ≡ refused k → (d′ ≡ d) × (out′ ≡ out)
-open-lent-refused d request first second out d′ r out′ kept e = open-refused d request first second out (record { desk = d′; answer = r }) out′ kept e
+pub open-lent-refused : (mode : Mode) (d : Desk) (request : Request) (first second out : List ℕ) (d′ : Desk) (r : Encoded) (out′ : List ℕ) {k : ℕ}
+    → OpenLentKeeps mode d request first second out d′ r out′ → encodedSays r ≡ refused k → (d′ ≡ d) × (out′ ≡ out)
+open-lent-refused mode d request first second out d′ r out′ kept e = open-refused mode d request first second out (record { desk = d′; answer = r }) out′ kept e
 
-pub open-on-refused : (len : ℕ) (command : CommandCode) (request : Request) (first second out : List ℕ) (r : OpenedParts) (out′ : List ℕ) {k : ℕ}
-    → OpenOnKeeps len command request first second out r out′ → encodedSays (r .answer) ≡ refused k → (r .command ≡ command) × (out′ ≡ out)
-open-on-refused len command request first second out r out′ kept e =
+pub open-on-refused : (len : ℕ) (command : CommandCode) (echo : ℕ) (request : Request) (first second out : List ℕ) (r : OpenedParts) (out′ : List ℕ) {k : ℕ}
+    → OpenOnKeeps len command echo request first second out r out′ → encodedSays (r .answer) ≡ refused k → (r .command ≡ command) × (r .echo ≡ echo) × (out′ ≡ out)
+open-on-refused len command echo request first second out r out′ kept e =
     let line : List ℕ = replicate 257 0 in
-    let s = opened-same (stateIn line len command) _ _ out (openedPartsSays r line len out′) (kept line refl) e in
-    (same-command (r .command) command (ap (λ (x : State). x .command) (s .0)), s .1)
+    let s = opened-same (stateIn line len command [] echo) out _ _ (kept line [] refl) e in
+    (same-command (r .command) command (ap (λ (x : State). x .command .awaited) (s .0)), ap (λ (x : State). x .command .size) (s .0), s .1)
 
--- ---- a new desk, and one that was reset, is idle and holds nothing: the next byte starts a line
+pub open-echo-on-refused : (len : ℕ) (command : CommandCode) (sent : List ℕ) (echo : ℕ) (request : Request) (first second out : List ℕ) (r : OpenedParts) (sent′ out′ : List ℕ) {k : ℕ}
+    → OpenEchoOnKeeps len command sent echo request first second out r sent′ out′ → encodedSays (r .answer) ≡ refused k
+    → (r .command ≡ command) × (sent′ ≡ sent) × (r .echo ≡ echo) × (out′ ≡ out)
+open-echo-on-refused len command sent echo request first second out r sent′ out′ kept e =
+    let line : List ℕ = replicate 257 0 in
+    let s = opened-same (stateIn line len command sent echo) out _ _ (kept line refl) e in (
+      same-command (r .command) command (ap (λ (x : State). x .command .awaited) (s .0)),
+      ap (λ (x : State). x .command .sent) (s .0),
+      ap (λ (x : State). x .command .size) (s .0),
+      s .1,
+    )
+
+-- ---- a new desk, and one that was reset, is idle, awaits no echo and holds nothing: the next byte starts a line
 
 pub new-fresh : viewed newState ≡ fresh idle
 new-fresh = refl
 
 pub reset-fresh : (s : State) → viewed (resetState s) ≡ fresh idle
 reset-fresh s = refl
+
+-- ---- a feed changes nothing in the bytes that are kept
+
+pub fed-sent : (s : State) (chunk text : List ℕ) → fed s chunk text .state .command .sent ≡ s .command .sent
+unfolding judgeKept
+fed-sent s chunk text = fed-command (λ k. k .sent ≡ s .command .sent) s chunk text refl (λ l. refl)
 
 -- ---- the text buffer stays without an event, and at Overlong
 
@@ -109,12 +121,12 @@ module _ (n : ℕ) (text : List ℕ) where
   quiet-text none e = refl
   quiet-text (some x) e = never (cc)
 
-  overlong-text : (c : Command) (o : Option Line) {m size : ℕ} → read (heardOf n (eventOf (Option·map (judge lineSort c) o))) ≡ read (event Overlong m size)
-      → textOf (eventOf (Option·map (judge lineSort c) o)) text ≡ text
-  unfolding judge
-  overlong-text c none e = never (cc)
-  overlong-text c (some overlong) e = refl
-  overlong-text c (some (L.line l)) e = absurd (table-event (c .awaited) (lineSort l) (cc))
+  overlong-text : (k : Kept) (o : Option Line) {m size : ℕ} → read (heardOf n (eventOf (Option·map (judgeKept k) o))) ≡ read (event Overlong m size)
+      → textOf (eventOf (Option·map (judgeKept k) o)) text ≡ text
+  unfolding judgeKept judge
+  overlong-text k none e = never (cc)
+  overlong-text k (some overlong) e = refl
+  overlong-text k (some (L.line l)) e = absurd (ruling-event lineSort (commandKept k .echo) (k .awaited) l (cc))
 
 module _ (s : State) (chunk text : List ℕ) where
   quiet-same : {m : ℕ} → fed s chunk text .answer ≡ read (quiet m) → fed s chunk text .text ≡ text
@@ -127,7 +139,7 @@ module _ (s : State) (chunk text : List ℕ) where
   overlong-same : {m size : ℕ} → fed s chunk text .answer ≡ read (event Overlong m size) → fed s chunk text .text ≡ text
   unfolding fed
   overlong-same e =
-      let j = judged-feed (judge lineSort) buffered chunk s in
+      let j = judged-feed judgeKept buffered chunk s in
       ⊎-elim (λ (f : ltb (length text) 256 ≡ true). rw f)
       (λ (f : ltb (length text) 256 ≡ false).
       let g = rw (f, j) at e in

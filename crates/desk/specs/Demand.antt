@@ -1,4 +1,5 @@
--- Demand 3: after an open, what a desk shows depends on the bytes alone, and complete unsolicited lines slipped in change no other event.
+-- Demand 3: after an open, in either mode, what a desk shows depends on the bytes alone; and complete unsolicited lines slipped in, or before an echo any complete
+-- lines but the echo itself (document 02, CR 4), change no other event.
 -- It is stated for any openings and feeds: specs/Calls.antt has the desk's own calls, each with its contract kept; proofs/Demand.antt proves it of them.
 use Prim.Native.Nat.{ℕ}
 use mathlib.Core.Path.{_≡_}
@@ -7,11 +8,12 @@ use mathlib.Core.List.{List, [], _∷_, _++_}
 use mathlib.Core.Option.{Option, none, some}
 use lib.ListN.{take}
 use Rattle.text.specs.Reading.{Reading, read, refused}
+use Rattle.at_command.specs.Kind.{Kind}
 use Rattle.desk.specs.Cut.{held}
 use Rattle.trial.specs.Sort.{unsolicited, lineSort}
 use Rattle.desk.specs.Machine.{shown}
-use Rattle.desk.specs.Lines.{line, linesOf, Whole}
-use Rattle.desk.specs.Judge.{Unsolicited, Seen, Command}
+use Rattle.desk.specs.Lines.{Line, overlong, line, linesOf, Whole}
+use Rattle.desk.specs.Judge.{Unsolicited, Seen, Command, echoing, idle, isEcho}
 use Rattle.desk.specs.Rules.{rulesOf, Plain, plain, fresh}
 use Rattle.desk.specs.Desk.{State, Heard, quiet, event}
 use Rattle.desk.specs.Slips.{Leaves, Script, end, byte, slip, ownBytes, allBytes}
@@ -60,17 +62,26 @@ unfoldable pub seenOf : List Turn → List Seen
 seenOf [] = []
 seenOf (t ∷ ts) = shown (t .seen) (seenOf ts)
 
--- ---- lines slipped in
+-- ---- bytes slipped in
 
--- a complete unsolicited line, where nothing is held: straight after the open and after an LF, as the demand says, and after a prompt
+-- none of the lines equals the echo
+abbrev pub NoEcho : List ℕ → List Line → Type 0
+NoEcho sent [] = Unit {0}
+NoEcho sent (overlong ∷ ls) = NoEcho sent ls
+NoEcho sent (line l ∷ ls) = (isEcho sent l ≡ false) × NoEcho sent ls
+
+-- What may be slipped in where nothing is held: straight after the open and after an LF, as the demand says, and after a prompt. A complete unsolicited line; and
+-- in echo mode, while the echo is awaited, whole lines of any kind, none of them equal to it.
 pub data May (s : Plain) (w : List ℕ) : Type 0 where
   unasked : (l : List ℕ) → s .wire ≡ held [] → Whole w → linesOf w ≡ line l ∷ [] → lineSort l ≡ read unsolicited → May s w
+  early : (sent : List ℕ) → s .wire ≡ held [] → Whole w → s .command .echo ≡ some sent → NoEcho sent (linesOf w) → May s w
 
--- one event for each line slipped in
-unfoldable pub unaskedIn : {s : Plain} → Script plain May s → List Seen
-unaskedIn end = []
-unaskedIn (byte b k) = unaskedIn k
-unaskedIn (slip w (unasked l start whole is sort) k) = record { event = Unsolicited; line = l } ∷ unaskedIn k
+-- the events of what is slipped in: Unsolicited for each line of the one kind, and for the other what an idle desk gives
+unfoldable pub slippedIn : {s : Plain} → Script plain May s → List Seen
+slippedIn end = []
+slippedIn (byte b k) = slippedIn k
+slippedIn (slip w (unasked l start whole is sort) k) = record { event = Unsolicited; line = l } ∷ slippedIn k
+slippedIn (slip w (early sent start whole awaited other) k) = rulesOf idle w ++ slippedIn k
 
 -- ---- sessions
 
@@ -95,11 +106,17 @@ module _ (Opens : Openings) (Fed : Feeds) where
       (c : Command) (a b : Session c) → bytesOf (a .turns) ≡ bytesOf (b .turns)
       → (seenOf (a .turns) ≡ seenOf (b .turns)) × (seenOf (a .turns) ≡ rulesOf c (bytesOf (a .turns)))
 
-  -- Where the second session's bytes are the first's with lines slipped in, one Unsolicited event for each of these lines, struck out, leaves equal lists.
+  -- Where the second session's bytes are the first's with such bytes slipped in, the events of these, struck out, leave equal lists.
   abbrev pub Demand3-slipped : Type 0
   Demand3-slipped =
       (c : Command) (a b : Session c) (k : Script plain May (fresh c)) → bytesOf (a .turns) ≡ ownBytes plain May k → bytesOf (b .turns) ≡ allBytes plain May k
-      → Leaves (seenOf (b .turns)) (unaskedIn k) (seenOf (a .turns))
+      → Leaves (seenOf (b .turns)) (slippedIn k) (seenOf (a .turns))
+
+  -- What echo mode adds, with no script in sight: whole lines w, slipped in after whole lines `before`, no line of either equal to the echo, change no other event.
+  abbrev pub Demand3-early : Type 0
+  Demand3-early =
+      (sent : List ℕ) (ks : List Kind) (a b : Session (echoing sent ks)) (before w rest : List ℕ) → Whole before → NoEcho sent (linesOf before) → Whole w → NoEcho sent (linesOf w)
+      → bytesOf (a .turns) ≡ before ++ rest → bytesOf (b .turns) ≡ before ++ (w ++ rest) → Leaves (seenOf (b .turns)) (rulesOf idle w) (seenOf (a .turns))
 
   -- From this desk on there is a session of the command that takes these bytes, whatever they are.
   abbrev pub Lives : State → Command → Type 0

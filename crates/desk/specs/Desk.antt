@@ -1,5 +1,5 @@
--- The desk with its buffer, and its calls: what each answers, and what it leaves of the desk and of each lent buffer (document 01, "The desk (added)" and
--- "Refusal numbers", 8 to 10).
+-- The desk with its buffer and the command that it keeps, and its calls: what each answers, and what it leaves of the desk and of each lent buffer
+-- (document 01, "The desk (added)" and "Refusal numbers", 8 to 10; document 02, CR 4).
 use Prim.Native.Nat.{ℕ, _+_}
 use mathlib.Core.Bool.{Bool, true, false, cond, _||_}
 use mathlib.Core.List.{List, [], _∷_, _++_}
@@ -7,10 +7,11 @@ use mathlib.Core.Option.{Option, none, some}
 use lib.ListN.{length, take, drop, replicate}
 use lib.Dec.{ltb, eqb}
 use Rattle.text.specs.Reading.{Reading, read, refused}
+use Rattle.at_command.specs.Kind.{Kind}
 use Rattle.at_command.specs.Request.{written}
 use Rattle.desk.specs.Cut.{View, dropping, held, bare, long, cutOne}
 use Rattle.trial.specs.Sort.{lineSort}
-use Rattle.desk.specs.Machine.{Machine, Stop, after, feed, Judging, judged}
+use Rattle.desk.specs.Machine.{Machine, Stop, after, feed, Ruled, Judging, judged}
 use Rattle.desk.specs.Lines.{Line, lineOf}
 use Rattle.desk.specs.Judge.{Event, Seen, Command, idle, isOpen, judge}
 use Rattle.desk.specs.Rules.{Plain}
@@ -41,18 +42,51 @@ layOne t b = record { bytes = laidBytes (viewOf t) (t .bytes) b; len = lenOf (cu
 unfoldable pub buffered : Machine Tray Line
 buffered t b = record { state = layOne t b; tell = lineOf (cutOne (viewOf t) b .piece) }
 
+-- ---- the command, as the desk keeps it
+
+-- Bytes, 210 of them in every desk, since no command is longer, of which so many at the front are the echo that is awaited; and the answers awaited. No echo is awaited where the size is 0,
+-- or more than the bytes are.
+pub record Kept : Type 0 where
+  pub sent : List ℕ
+  pub size : ℕ
+  pub awaited : List Kind
+
+abbrev pub echoIn : List ℕ → ℕ → Option (List ℕ)
+echoIn sent size = cond (eqb size 0) none (cond (ltb (length sent) size) none (some (take size sent)))
+
+abbrev pub commandKept : Kept → Command
+commandKept k = record { echo = echoIn (k .sent) (k .size); awaited = k .awaited }
+
+-- a command is kept in place of another: an echo that it awaits fills the front of the bytes, nothing else in them changes
+abbrev pub sentIn : Option (List ℕ) → List ℕ → List ℕ
+sentIn none old = old
+sentIn (some sent) old = sent ++ drop (length sent) old
+
+abbrev pub sizeIn : Option (List ℕ) → ℕ
+sizeIn none = 0
+sizeIn (some sent) = length sent
+
+abbrev pub keep : Command → Kept → Kept
+keep c k = record { sent = sentIn (c .echo) (k .sent); size = sizeIn (c .echo); awaited = c .awaited }
+
 -- ---- the desk
 
--- the buffer, and the command that is open
+-- the buffer, and the command that is kept
 abbrev pub State : Type 0
-State = Judging Tray Command
+State = Judging Tray Kept
 
--- what the buffer holds, and the command
+-- what the buffer holds, and the command that is open
 abbrev pub viewed : State → Plain
-viewed s = record { wire = viewOf (s .wire); command = s .command }
+viewed s = record { wire = viewOf (s .wire); command = commandKept (s .command) }
+
+-- a line is judged by the command that is kept; the bytes stay, and what is awaited after it is kept
+unfoldable pub judgeKept : Kept → Line → Ruled Kept Seen
+judgeKept k l =
+    let r = judge lineSort (commandKept k) l in
+    record { command = record { sent = k .sent; size = sizeIn (r .command .echo); awaited = r .command .awaited }; event = r .event }
 
 abbrev pub desk : Machine State Seen
-desk = judged (judge lineSort) buffered
+desk = judged judgeKept buffered
 
 -- the desk after all these bytes, however they are fed
 abbrev pub afterBytes : State → List ℕ → State
@@ -60,11 +94,11 @@ afterBytes s bytes = after desk s bytes
 
 -- a new desk is idle and holds nothing
 abbrev pub newState : State
-newState = record { wire = record { bytes = replicate 257 0; len = 0 }; command = idle }
+newState = record { wire = record { bytes = replicate 257 0; len = 0 }; command = record { sent = replicate 210 0; size = 0; awaited = [] } }
 
--- reset closes the command and forgets an unfinished line
+-- reset closes the command, awaits no echo and forgets an unfinished line
 abbrev pub resetState : State → State
-resetState s = record { wire = record { bytes = s .wire .bytes; len = 0 }; command = idle }
+resetState s = record { wire = record { bytes = s .wire .bytes; len = 0 }; command = keep idle (s .command) }
 
 -- ---- feed
 
@@ -105,7 +139,7 @@ isClear (held (b ∷ bs)) = false
 
 -- 8 while a command is open, 9 while an unfinished line is held or being dropped, else what the writer says
 abbrev pub allowed : State → Reading (List ℕ) → Reading (List ℕ)
-allowed s w = cond (isOpen (s .command)) (refused 8) (cond (isClear (viewOf (s .wire))) w (refused 9))
+allowed s w = cond (isOpen (commandKept (s .command))) (refused 8) (cond (isClear (viewOf (s .wire))) w (refused 9))
 
 pub record Opened : Type 0 where
   pub state : State
@@ -113,7 +147,7 @@ pub record Opened : Type 0 where
   pub out : List ℕ
 
 abbrev pub openedWith : State → Command → Reading (List ℕ) → List ℕ → Opened
-openedWith s c (read w) out = record { state = record { wire = s .wire; command = c }; answer = read (length w); out = written (read w) out }
+openedWith s c (read w) out = record { state = record { wire = s .wire; command = keep c (s .command) }; answer = read (length w); out = written (read w) out }
 openedWith s c (refused k) out = record { state = s; answer = refused k; out = out }
 
 -- an open of this command, for which the writer gives these bytes or a refusal

@@ -1,13 +1,16 @@
--- The desk's table (document 01, "The desk (added)"): what a line is to the command that is open, and the command afterwards.
+-- What a line is to the command that is open, and the command afterwards: the desk's table (document 01, "The desk (added)"), and before it the echo that a
+-- command may await (document 02, CR 4).
 use Prim.Native.Nat.{ℕ}
-use mathlib.Core.Bool.{Bool, true, false, cond, _&&_}
+use mathlib.Core.Bool.{Bool, true, false, cond, _&&_, _||_}
 use mathlib.Core.List.{List, [], _∷_}
 use mathlib.Core.Option.{Option, none, some}
 use lib.ListN.{drop, getD}
 use lib.Dec.{eqb}
+use Rattle.text.specs.Bytes.{same}
 use Rattle.text.specs.Reading.{Reading, read, refused}
 use Rattle.at_command.specs.Kind.{Kind, genericOk, simError, placeOf}
 use Rattle.trial.specs.Sort.{Sort, response, unsolicited}
+use Rattle.desk.specs.Cut.{bare}
 use Rattle.desk.specs.Machine.{Ruled}
 use Rattle.desk.specs.Lines.{Line, overlong, line}
 
@@ -21,6 +24,7 @@ pub data Event : Type 0 where
   Done : Event
   Short : Event
   Unsolicited : Event
+  Echo : Event
 
 -- an event with its line; Overlong has none
 pub record Seen : Type 0 where
@@ -36,6 +40,7 @@ eventNumber Short = 4
 eventNumber Failed = 5
 eventNumber (Stray n) = 6
 eventNumber Overlong = 7
+eventNumber Echo = 8
 
 abbrev pub strayNumber : Event → ℕ
 strayNumber Unsolicited = 0
@@ -45,19 +50,26 @@ strayNumber Short = 0
 strayNumber Failed = 0
 strayNumber (Stray n) = n
 strayNumber Overlong = 0
+strayNumber Echo = 0
 
 -- the event of a number, with a stray's number; 0 is none
 abbrev pub eventAt : ℕ → ℕ → Option Event
-eventAt e n = getD (none ∷ some Unsolicited ∷ some Taken ∷ some Done ∷ some Short ∷ some Failed ∷ some (Stray n) ∷ some Overlong ∷ []) e none
+eventAt e n = getD (none ∷ some Unsolicited ∷ some Taken ∷ some Done ∷ some Short ∷ some Failed ∷ some (Stray n) ∷ some Overlong ∷ some Echo ∷ []) e none
 
 -- ---- the command
 
--- The command is the answers that it still awaits, in order. None is awaited where no command is open.
+-- The command is what it still awaits: the echo of what was sent, where it was opened in echo mode and the echo has not come, and the answers in order. No
+-- answer is awaited where no command is open.
 pub record Command : Type 0 where
+  pub echo : Option (List ℕ)
   pub awaited : List Kind
 
 abbrev pub awaiting : List Kind → Command
-awaiting ks = record { awaited = ks }
+awaiting ks = record { echo = none; awaited = ks }
+
+-- in echo mode, these bytes having been sent
+abbrev pub echoing : List ℕ → List Kind → Command
+echoing sent ks = record { echo = some sent; awaited = ks }
 
 abbrev pub idle : Command
 idle = awaiting []
@@ -130,8 +142,23 @@ table c s =
     -- other, or any response when idle
     (stays c (Stray 0))))))
 
--- A line is judged by its sort; whoever sorts lines otherwise judges them otherwise.
+-- ---- the echo
+
+-- the line equals the command that was sent, with or without its final CR
+unfoldable pub isEcho : List ℕ → List ℕ → Bool
+isEcho sent l = same l sent || same l (bare sent)
+
+-- A line is judged by its sort and, while an echo is awaited, by its bytes; whoever sorts lines otherwise judges them otherwise.
 module _ (sortOf : List ℕ → Reading Sort) where
+  -- By the table, where no echo is awaited. Until the echo comes every other line is what it is to an idle desk: a response or an error is Stray 0.
+  unfoldable pub ruling : Option (List ℕ) → List Kind → List ℕ → Ruling
+  ruling none ks l = table (awaiting ks) (sortOf l)
+  ruling (some sent) ks l =
+      cond (isEcho sent l) (record { command = awaiting ks; event = Echo })
+      (stays (echoing sent ks) (table idle (sortOf l) .event))
+
   unfoldable pub judge : Command → Line → Ruled Command Seen
   judge c overlong = record { command = c; event = record { event = Overlong; line = [] } }
-  judge c (line l) = record { command = table c (sortOf l) .command; event = record { event = table c (sortOf l) .event; line = l } }
+  judge c (line l) =
+      let r = ruling (c .echo) (c .awaited) l in
+      record { command = r .command; event = record { event = r .event; line = l } }

@@ -4,14 +4,15 @@ use mathlib.Core.Path.{_≡_}
 use mathlib.Core.List.{List}
 use lib.ListN.{length}
 use Rattle.at_command.specs.Request.{encodeReading}
-use Rattle.at_command.specs.says.Request.{asked, awaitedBy}
+use Rattle.at_command.specs.says.Request.{asked}
 use Rattle.at_command.specs.declared.request.Request.{Request}
 use Rattle.at_command.specs.declared.request.Encoded.{Encoded}
-use Rattle.desk.specs.Judge.{awaiting}
+use Rattle.desk.specs.Judge.{Command}
+use Rattle.desk.specs.Rules.{Mode, plainMode, echoMode, commandFor}
 use Rattle.desk.specs.Desk.{State, newState, resetState, fed, Opened, opened}
 use Rattle.desk.specs.Says.{stateIn, stateOf, fedSays, partsSays, openedSays, openedPartsSays, fedLentSays, openedLentSays}
 use Rattle.desk.specs.declared.Desk.{Desk}
-use Rattle.desk.specs.declared.command.Command.{Command}
+use Rattle.desk.specs.declared.command.Command.{Command as CommandCode}
 use Rattle.desk.specs.declared.feed.Fed.{Fed}
 use Rattle.desk.specs.declared.feed.FedAnswer.{FedAnswer}
 use Rattle.desk.specs.declared.feed.FedParts.{FedParts}
@@ -34,22 +35,33 @@ FeedKeeps d chunk text r text′ = fedSays r text′ ≡ fed (stateOf d) chunk t
 abbrev pub FeedLentKeeps : Desk → List ℕ → List ℕ → Desk → FedAnswer → List ℕ → Type 0
 FeedLentKeeps d chunk text d′ r text′ = fedLentSays d′ r text′ ≡ fed (stateOf d) chunk text
 
-abbrev pub FeedOnKeeps : List ℕ → ℕ → Command → List ℕ → List ℕ → FedParts → List ℕ → List ℕ → Type 0
-FeedOnKeeps line len command chunk text r line′ text′ = partsSays r line′ text′ ≡ fed (stateIn line len command) chunk text
+-- a feed is lent the kept bytes to read: they are after it what they were
+abbrev pub FeedOnKeeps : List ℕ → ℕ → CommandCode → List ℕ → ℕ → List ℕ → List ℕ → FedParts → List ℕ → List ℕ → Type 0
+FeedOnKeeps line len command sent echo chunk text r line′ text′ = partsSays r line′ sent text′ ≡ fed (stateIn line len command sent echo) chunk text
 
--- ---- open, likewise
+-- ---- open, likewise, in both modes
+
+-- what an open of a request of the code awaits, with its texts
+abbrev pub commandBy : Mode → Request → List ℕ → List ℕ → Command
+commandBy mode request first second = commandFor mode (asked request first second)
 
 -- what an open of the request makes of a desk
-abbrev pub openedBy : State → Request → List ℕ → List ℕ → List ℕ → Opened
-openedBy s request first second out = opened s (awaiting (awaitedBy request)) (encodeReading (asked request first second) (length out)) out
+abbrev pub openedBy : Mode → State → Request → List ℕ → List ℕ → List ℕ → Opened
+openedBy mode s request first second out = opened s (commandBy mode request first second) (encodeReading (asked request first second) (length out)) out
 
-abbrev pub OpenKeeps : Desk → Request → List ℕ → List ℕ → List ℕ → OpenedCode → List ℕ → Type 0
-OpenKeeps d request first second out r out′ = openedSays r out′ ≡ openedBy (stateOf d) request first second out
+abbrev pub OpenKeeps : Mode → Desk → Request → List ℕ → List ℕ → List ℕ → OpenedCode → List ℕ → Type 0
+OpenKeeps mode d request first second out r out′ = openedSays r out′ ≡ openedBy mode (stateOf d) request first second out
 
-abbrev pub OpenLentKeeps : Desk → Request → List ℕ → List ℕ → List ℕ → Desk → Encoded → List ℕ → Type 0
-OpenLentKeeps d request first second out d′ r out′ = openedLentSays d′ r out′ ≡ openedBy (stateOf d) request first second out
+abbrev pub OpenLentKeeps : Mode → Desk → Request → List ℕ → List ℕ → List ℕ → Desk → Encoded → List ℕ → Type 0
+OpenLentKeeps mode d request first second out d′ r out′ = openedLentSays d′ r out′ ≡ openedBy mode (stateOf d) request first second out
 
--- no open looks at the line's bytes: it holds whatever they are
-abbrev pub OpenOnKeeps : ℕ → Command → Request → List ℕ → List ℕ → List ℕ → OpenedParts → List ℕ → Type 0
-OpenOnKeeps len command request first second out r out′ =
-    (line : List ℕ) → length line ≡ 257 → openedPartsSays r line len out′ ≡ openedBy (stateIn line len command) request first second out
+-- no open looks at the line's bytes, and the plain one not at the kept command's: it holds whatever they are
+abbrev pub OpenOnKeeps : ℕ → CommandCode → ℕ → Request → List ℕ → List ℕ → List ℕ → OpenedParts → List ℕ → Type 0
+OpenOnKeeps len command echo request first second out r out′ =
+    (line sent : List ℕ) → length line ≡ 257
+    → openedPartsSays r line len sent out′ ≡ openedBy plainMode (stateIn line len command sent echo) request first second out
+
+abbrev pub OpenEchoOnKeeps : ℕ → CommandCode → List ℕ → ℕ → Request → List ℕ → List ℕ → List ℕ → OpenedParts → List ℕ → List ℕ → Type 0
+OpenEchoOnKeeps len command sent echo request first second out r sent′ out′ =
+    (line : List ℕ) → length line ≡ 257
+    → openedPartsSays r line len sent′ out′ ≡ openedBy echoMode (stateIn line len command sent echo) request first second out

@@ -3,6 +3,7 @@ pub mod Cut
 pub mod Lines
 pub mod Judge
 pub mod Rules
+pub mod Examples
 pub mod Desk
 pub mod Search
 pub mod Says

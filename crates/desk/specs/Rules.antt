@@ -1,11 +1,23 @@
--- Document 01's rules for a desk's bytes, with no buffer and no chunk: the lines of the bytes, each judged.
+-- The rules for a desk's bytes, with no buffer and no chunk: the lines of the bytes, each judged by the command that was opened (document 01, "The desk (added)";
+-- document 02, CR 4).
 use Prim.Native.Nat.{ℕ}
 use mathlib.Core.List.{List, []}
+use Rattle.at_command.specs.Request.{Asked, commandOf, answersTo}
 use Rattle.desk.specs.Cut.{View, held}
 use Rattle.trial.specs.Sort.{lineSort}
 use Rattle.desk.specs.Machine.{Machine, Judging, judged, judgeAll}
 use Rattle.desk.specs.Lines.{cutter, linesOf}
-use Rattle.desk.specs.Judge.{Seen, Command, judge}
+use Rattle.desk.specs.Judge.{Seen, Command, awaiting, echoing, judge}
+
+-- a command is opened in plain mode, or in echo mode for a modem with echo on
+pub data Mode : Type 0 where
+  plainMode : Mode
+  echoMode : Mode
+
+-- what the command of a request awaits once it is opened: its answers, and in echo mode its own bytes before them
+abbrev pub commandFor : Mode → Asked → Command
+commandFor plainMode a = awaiting (answersTo a)
+commandFor echoMode a = echoing (commandOf a) (answersTo a)
 
 -- the events of these bytes, after a command was opened
 abbrev pub rulesOf : Command → List ℕ → List Seen

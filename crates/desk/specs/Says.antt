@@ -10,7 +10,7 @@ use Rattle.desk.specs.Machine.{Stop}
 use Rattle.desk.specs.Lines.{Line, lineOf}
 use Rattle.desk.specs.Judge as J
 use Rattle.desk.specs.Judge.{idle, awaiting, Ruling}
-use Rattle.desk.specs.Desk.{Tray, State, Heard, quiet, event, Fed, Opened}
+use Rattle.desk.specs.Desk.{Tray, Kept, State, Heard, quiet, event, Fed, Opened}
 use Rattle.desk.specs.Search.{trayOf, Pushed}
 use Rattle.desk.specs.declared.Event.{Event}
 use Rattle.desk.specs.declared.Event.the-variants as E
@@ -29,7 +29,7 @@ use Rattle.desk.specs.declared.feed.FedParts.{FedParts}
 use Rattle.desk.specs.declared.open.Opened.{Opened as OpenedCode}
 use Rattle.desk.specs.declared.open.OpenedParts.{OpenedParts}
 
--- the answers that a command still awaits
+-- the answers that a command still awaits, the echo left aside
 abbrev pub commandSays : Command → J.Command
 commandSays Idle = idle
 commandSays (One a) = awaiting (kindSays a ∷ [])
@@ -43,6 +43,7 @@ eventSays E.Taken = J.Taken
 eventSays E.Done = J.Done
 eventSays E.Short = J.Short
 eventSays E.Unsolicited = J.Unsolicited
+eventSays E.Echo = J.Echo
 
 abbrev pub rulingSays : Judged → Ruling
 rulingSays j = record { command = commandSays (j .command); event = eventSays (j .event) }
@@ -60,12 +61,16 @@ sizeOf P.Blank = 0
 sizeOf P.Overlong = 0
 sizeOf (P.Line n) = n
 
+-- the command that is kept: the bytes of its echo, their size, and the answers
+abbrev pub keptSays : List ℕ → ℕ → Command → Kept
+keptSays sent echo command = record { sent = sent; size = echo; awaited = commandSays command .awaited }
+
 -- the desk, whole and in its parts
-abbrev pub stateIn : List ℕ → ℕ → Command → State
-stateIn bytes len command = record { wire = record { bytes = bytes; len = len }; command = commandSays command }
+abbrev pub stateIn : List ℕ → ℕ → Command → List ℕ → ℕ → State
+stateIn bytes len command sent echo = record { wire = record { bytes = bytes; len = len }; command = keptSays sent echo command }
 
 abbrev pub stateOf : Desk → State
-stateOf d = stateIn (d .cutter .line) (d .cutter .len) (d .command)
+stateOf d = stateIn (d .cutter .line) (d .cutter .len) (d .command) (d .sent) (d .echo)
 
 abbrev pub answerSays : FedAnswer → Reading Heard
 answerSays (F.Refused k) = refused k
@@ -76,14 +81,14 @@ answerSays (F.Heard e n size) = read (event (eventSays e) n size)
 abbrev pub fedSays : FedCode → List ℕ → Fed
 fedSays r text = record { state = stateOf (r .desk); answer = answerSays (r .answer); text = text }
 
-abbrev pub partsSays : FedParts → List ℕ → List ℕ → Fed
-partsSays r bytes text = record { state = stateIn bytes (r .len) (r .command); answer = answerSays (r .answer); text = text }
+abbrev pub partsSays : FedParts → List ℕ → List ℕ → List ℕ → Fed
+partsSays r bytes sent text = record { state = stateIn bytes (r .len) (r .command) sent (r .echo); answer = answerSays (r .answer); text = text }
 
 abbrev pub openedSays : OpenedCode → List ℕ → Opened
 openedSays r out = record { state = stateOf (r .desk); answer = encodedSays (r .answer); out = out }
 
-abbrev pub openedPartsSays : OpenedParts → List ℕ → ℕ → List ℕ → Opened
-openedPartsSays r bytes len out = record { state = stateIn bytes len (r .command); answer = encodedSays (r .answer); out = out }
+abbrev pub openedPartsSays : OpenedParts → List ℕ → ℕ → List ℕ → List ℕ → Opened
+openedPartsSays r bytes len sent out = record { state = stateIn bytes len (r .command) sent (r .echo); answer = encodedSays (r .answer); out = out }
 
 -- a call on a lent desk says what the call by value says, with the desk that stands behind the reference after it for the one handed back
 abbrev pub fedLentSays : Desk → FedAnswer → List ℕ → Fed

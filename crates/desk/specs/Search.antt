@@ -7,11 +7,11 @@ use mathlib.Core.Option.{Option, Option·map}
 use lib.ListN.{length, drop, getD}
 use Rattle.text.specs.Reading.{Reading, read}
 use Rattle.desk.specs.Cut.{Piece, nothing, blank, overlong, line, bare, long as tooLong, cutOne}
-use Rattle.trial.specs.Sort.{lineSort}
 use Rattle.desk.specs.Machine.{Stop, feed, commandOf, eventOf}
 use Rattle.desk.specs.Lines.{Line}
-use Rattle.desk.specs.Judge.{Command, judge}
-use Rattle.desk.specs.Desk.{Tray, viewOf, layOne, buffered, Heard, heardOf, textOf}
+use Rattle.desk.specs.Lines as L
+use Rattle.desk.specs.Judge.{Event}
+use Rattle.desk.specs.Desk.{Tray, viewOf, layOne, buffered, Kept, judgeKept, Heard, heardOf, textOf}
 
 abbrev pub trayOf : List ℕ → ℕ → Tray
 trayOf bytes len = record { bytes = bytes; len = len }
@@ -59,8 +59,12 @@ pub record Past (len b : ℕ) (r : Bool) : Type 0 where
   pub few : r ≡ false → len ≤ 256
   pub is : (h : List ℕ) → length h ≡ len → r ≡ tooLong (bare (h ++ b ∷ []))
 
+-- what a line is, and the command that is kept after it
+abbrev pub Judges : Kept → List ℕ → Kept → Event → Type 0
+Judges k l k′ e = record { command = k′; event = record { event = e; line = l } } ≡ judgeKept k (L.line l)
+
 -- what a feed makes of what the search told, n bytes having been taken: the command, the answer, and the text buffer
-pub record Tells (c : Command) (told : Option Line) (n : ℕ) (text : List ℕ) (c′ : Command) (answer : Reading Heard) (text′ : List ℕ) : Type 0 where
-  pub commands : c′ ≡ commandOf c (Option·map (judge lineSort c) told)
-  pub answers : answer ≡ read (heardOf n (eventOf (Option·map (judge lineSort c) told)))
-  pub texts : text′ ≡ textOf (eventOf (Option·map (judge lineSort c) told)) text
+pub record Tells (k : Kept) (told : Option Line) (n : ℕ) (text : List ℕ) (k′ : Kept) (answer : Reading Heard) (text′ : List ℕ) : Type 0 where
+  pub commands : k′ ≡ commandOf k (Option·map (judgeKept k) told)
+  pub answers : answer ≡ read (heardOf n (eventOf (Option·map (judgeKept k) told)))
+  pub texts : text′ ≡ textOf (eventOf (Option·map (judgeKept k) told)) text

@@ -1,8 +1,7 @@
--- Bytes slipped in where they bring a machine back to the state that it was in, for demand 3.
+-- Bytes slipped into a machine's own, for demand 3.
 use Prim.Native.Nat.{ℕ}
-use mathlib.Core.Path.{_≡_}
 use mathlib.Core.List.{List, [], _∷_, _++_}
-use Rattle.desk.specs.Machine.{Machine, tells, after}
+use Rattle.desk.specs.Machine.{Machine}
 
 -- `struck` struck out of `all` leaves `own`
 pub data Leaves {A : Type 0} : List A → List A → List A → Type 0 where
@@ -17,7 +16,7 @@ module _ {S T : Type 0} (m : Machine S T) (May : S → List ℕ → Type 0) wher
     byte : {s : S} (b : ℕ) → Script (m s b .state) → Script s
     slip : {s : S} (w : List ℕ) → May s w → Script s → Script s
 
-  -- the bytes without those slipped in, and with them; and what is told of those slipped in
+  -- the bytes without those slipped in, and with them
   unfoldable pub ownBytes : {s : S} → Script s → List ℕ
   ownBytes end = []
   ownBytes (byte b k) = b ∷ ownBytes k
@@ -27,12 +26,3 @@ module _ {S T : Type 0} (m : Machine S T) (May : S → List ℕ → Type 0) wher
   allBytes end = []
   allBytes (byte b k) = b ∷ allBytes k
   allBytes (slip w u k) = w ++ allBytes k
-
-  unfoldable pub slipped : {s : S} → Script s → List T
-  slipped end = []
-  slipped (byte b k) = slipped k
-  slipped {s} (slip w u k) = tells m s w ++ slipped k
-
-  -- each of the bytes that may be slipped in leads back to where it began
-  abbrev pub Back : Type 0
-  Back = (s : S) (w : List ℕ) → May s w → after m s w ≡ s

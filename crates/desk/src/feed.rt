@@ -4,13 +4,15 @@ use crate::Event;
 use crate::command::Command;
 use crate::cutter;
 use crate::cutter::Piece;
+use crate::echo;
 use crate::judge;
 use text::copy;
+use text::part;
 ghost use Prim.Native.Nat.{_≤_};
 ghost use lib.ListN.{length};
 ghost use Rattle.desk.specs.Lines.{lineOf};
-ghost use Rattle.desk.specs.Search.{Tells};
-ghost use Rattle.desk.specs.Says.{commandSays, pieceSays, sizeOf, answerSays};
+ghost use Rattle.desk.specs.Search.{Judges, Tells};
+ghost use Rattle.desk.specs.Says.{keptSays, eventSays, pieceSays, sizeOf, answerSays};
 ghost use Rattle.desk.specs.Keeps.{FeedKeeps, FeedOnKeeps};
 
 // The refusal, 10; or the bytes taken with no event; or the event, the bytes taken and the size of its line.
@@ -33,45 +35,101 @@ pub struct Fed {
 pub struct FedParts {
     pub len: usize,
     pub command: Command,
+    pub echo: usize,
     pub answer: FedAnswer,
 }
 
-// The answer to a piece, and the command after it.
+// What a line is, and the command after it with the size of the echo that it then awaits.
+struct LineRuled {
+    command: Command,
+    echo: usize,
+    event: Event,
+}
+
+// The answer to a piece, and the command after it likewise.
 struct Ruled {
     command: Command,
+    echo: usize,
     answer: FedAnswer,
 }
 
+// The line that is awaited is Echo; any other before it is what it is to an idle desk; where no echo is awaited the table decides.
+fn rule_line(command: Command, sent: &[u8], echo: usize, line: &[u8]) -> LineRuled
+    ensures { λ r. ⌜ Judges (keptSays (now (sent .entry)) echo command) (now (line .entry)) (keptSays (now (sent .entry)) (r .echo) (r .command)) (eventSays (r .event)) ⌝ }
+{
+    let size = echo::size_of(sent, echo);
+    if size == 0 {
+        let sort = trial::sort_of(line);
+        let j = judge::judge(command, sort);
+        let after = j.command;
+        let event = j.event;
+        return LineRuled {
+            command: after,
+            echo: 0,
+            event: event,
+        };
+    }
+    if echo::is_echo(line, part::part(sent, 0, size)) {
+        return LineRuled {
+            command: command,
+            echo: 0,
+            event: Event::Echo,
+        };
+    }
+    let sort = trial::sort_of(line);
+    let j = judge::judge(Command::Idle, sort);
+    let event = j.event;
+    LineRuled {
+        command: command,
+        echo: size,
+        event: event,
+    }
+}
+
 // What a piece tells; a line is laid in text.
-fn rule(command: Command, piece: Piece, taken: usize, line: &[u8], text: &mut [u8]) -> Ruled
+fn rule(
+    command: Command,
+    sent: &[u8],
+    echo: usize,
+    piece: Piece,
+    taken: usize,
+    line: &[u8],
+    text: &mut [u8],
+) -> Ruled
     requires { ⌜ (sizeOf piece ≤ length (now line)) × (sizeOf piece ≤ length (now text)) ⌝ }
-    ensures { λ r. ⌜ Tells (commandSays command) (lineOf (pieceSays piece (now (line .entry)))) taken (now (text .entry)) (commandSays (r .command)) (answerSays (r .answer)) (now (text .exit)) ⌝ }
+    ensures { λ r. ⌜ Tells (keptSays (now (sent .entry)) echo command) (lineOf (pieceSays piece (now (line .entry)))) taken (now (text .entry)) (keptSays (now (sent .entry)) (r .echo) (r .command)) (answerSays (r .answer)) (now (text .exit)) ⌝ }
 {
     match piece {
         Piece::Nothing => Ruled {
             command: command,
+            echo: echo,
             answer: FedAnswer::Quiet(taken),
         },
         Piece::Blank => Ruled {
             command: command,
+            echo: echo,
             answer: FedAnswer::Quiet(taken),
         },
-        Piece::Overlong => Ruled {
-            command: command,
-            answer: FedAnswer::Heard {
-                event: Event::Overlong,
-                taken: taken,
-                size: 0,
-            },
-        },
+        Piece::Overlong => {
+            let size = echo::size_of(sent, echo);
+            Ruled {
+                command: command,
+                echo: size,
+                answer: FedAnswer::Heard {
+                    event: Event::Overlong,
+                    taken: taken,
+                    size: 0,
+                },
+            }
+        }
         Piece::Line(n) => {
-            let sort = trial::sort_of(&line[..n]);
-            let j = judge::judge(command, sort);
+            let heard = rule_line(command, sent, echo, &line[..n]);
             let _end = copy::lay(&line[..n], 0, text);
-            let after = j.command;
-            let event = j.event;
+            let after = heard.command;
+            let event = heard.event;
             Ruled {
                 command: after,
+                echo: heard.echo,
                 answer: FedAnswer::Heard {
                     event: event,
                     taken: taken,
@@ -87,26 +145,30 @@ pub fn feed_on(
     line: &mut [u8; 257],
     len: usize,
     command: Command,
+    sent: &[u8; 210],
+    echo: usize,
     chunk: &[u8],
     text: &mut [u8],
 ) -> FedParts
-    ensures { λ r. ⌜ FeedOnKeeps (now (line .entry)) len command (now (chunk .entry)) (now (text .entry)) r (now (line .exit)) (now (text .exit)) ⌝ }
+    ensures { λ r. ⌜ FeedOnKeeps (now (line .entry)) len command (now (sent .entry)) echo (now (chunk .entry)) (now (text .entry)) r (now (line .exit)) (now (text .exit)) ⌝ }
 {
     if text.len() < 256 {
         return FedParts {
             len: len,
             command: command,
+            echo: echo,
             answer: FedAnswer::Refused(10),
         };
     }
     let found = cutter::search(line, len, chunk);
     let piece = found.piece;
-    let ruled = rule(command, piece, found.taken, line, text);
+    let ruled = rule(command, sent, echo, piece, found.taken, line, text);
     let after = ruled.command;
     let answer = ruled.answer;
     FedParts {
         len: found.len,
         command: after,
+        echo: ruled.echo,
         answer: answer,
     }
 }
@@ -118,7 +180,15 @@ impl Desk {
         let command = self.command;
         let mut cutter = self.cutter;
         let len = cutter.len;
-        let parts = feed_on(&mut cutter.line, len, command, chunk, text);
+        let parts = feed_on(
+            &mut cutter.line,
+            len,
+            command,
+            &self.sent,
+            self.echo,
+            chunk,
+            text,
+        );
         cutter.len = parts.len;
         let after = parts.command;
         let answer = parts.answer;
@@ -126,6 +196,8 @@ impl Desk {
             desk: Desk {
                 cutter: cutter,
                 command: after,
+                sent: self.sent,
+                echo: parts.echo,
             },
             answer: answer,
         }

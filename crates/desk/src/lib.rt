@@ -6,6 +6,7 @@ ghost use Rattle.desk.specs.Keeps.{NewKeeps};
 
 mod command;
 mod cutter;
+mod echo;
 mod feed;
 mod judge;
 mod lent;
@@ -20,11 +21,16 @@ pub use feed::FedParts;
 pub use feed::feed_on;
 pub use open::Opened;
 pub use open::OpenedParts;
+pub use open::open_echo_on;
 pub use open::open_on;
 
+// The line that is coming, the answers that the open command awaits, and what was sent: sent[..echo] is the echo that comes first. None does where echo is 0, or
+// above 210, which no command is longer than.
 pub struct Desk {
     pub cutter: Cutter,
     pub command: Command,
+    pub sent: [u8; 210],
+    pub echo: usize,
 }
 
 // What a line, or the end of one past its length, tells.
@@ -36,6 +42,7 @@ pub enum Event {
     Done,
     Short,
     Unsolicited,
+    Echo,
 }
 
 impl Event {
@@ -50,6 +57,7 @@ impl Event {
             Event::Failed => 5,
             Event::Stray(_) => 6,
             Event::Overlong => 7,
+            Event::Echo => 8,
         }
     }
 
@@ -65,6 +73,7 @@ impl Event {
             Event::Failed => 0,
             Event::Stray(n) => n as u64,
             Event::Overlong => 0,
+            Event::Echo => 0,
         }
     }
 }
@@ -74,9 +83,12 @@ impl Desk {
         ensures { λ r. ⌜ NewKeeps r ⌝ }
     {
         let line = [0u8; 257];
+        let sent = [0u8; 210];
         Desk {
             cutter: Cutter { line: line, len: 0 },
             command: Command::Idle,
+            sent: sent,
+            echo: 0,
         }
     }
 }

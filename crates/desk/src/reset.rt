@@ -1,4 +1,4 @@
-// The desk set back: the command is closed, and an unfinished line forgotten.
+// The desk set back: the command is closed, no echo is awaited, and an unfinished line is forgotten.
 use crate::Desk;
 use crate::command::Command;
 use crate::cutter::Cutter;
@@ -10,9 +10,12 @@ impl Desk {
     {
         let cutter = self.cutter;
         let line = cutter.line;
+        let sent = self.sent;
         Desk {
             cutter: Cutter { line: line, len: 0 },
             command: Command::Idle,
+            sent: sent,
+            echo: 0,
         }
     }
 }

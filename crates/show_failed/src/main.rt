@@ -1,4 +1,6 @@
 // The show program on a command that fails.
+use showing::Mode;
+
 fn main() {
-    showing::run();
+    showing::run(Mode::Plain);
 }

@@ -1,4 +1,4 @@
-// What the show programs do: standard input goes to a desk with AT+CSQ open, and each event is printed with its line.
+// What the show programs do: standard input goes to a desk with AT+CSQ open, in one mode or the other, and each event is printed with its line.
 use at_command::Encoded;
 use at_command::Request;
 use console::output;
@@ -6,12 +6,18 @@ use desk::Command;
 use desk::Desk;
 use desk::Event;
 use desk::FedAnswer;
+use desk::Opened;
 use libc::STDIN_FILENO;
 use text::part;
 ghost use mathlib.Core.Path.{_≡_};
 ghost use Rattle.desk.specs.Desk.{afterBytes};
 ghost use Rattle.desk.specs.Says.{stateOf, answerSays};
 ghost use Rattle.desk.specs.Demand.{takenBy};
+
+pub enum Mode {
+    Plain,
+    Echo,
+}
 
 // A line of output: a word, and the bytes behind it.
 fn print(word: &[u8], rest: &[u8]) {
@@ -41,6 +47,7 @@ fn say(event: Event, line: &[u8]) {
         Event::Done => print(b"done ", line),
         Event::Short => print(b"short ", line),
         Event::Unsolicited => print(b"unsolicited ", line),
+        Event::Echo => print(b"echo ", line),
     }
 }
 
@@ -81,9 +88,17 @@ fn end(command: Command) {
     }
 }
 
-pub fn run() {
+fn open(mode: Mode, out: &mut [u8]) -> Opened {
+    let desk = Desk::new();
+    match mode {
+        Mode::Plain => desk.open(Request::GetSignalQuality, b"", b"", out),
+        Mode::Echo => desk.open_echo(Request::GetSignalQuality, b"", b"", out),
+    }
+}
+
+pub fn run(mode: Mode) {
     let mut command = [0u8; 256];
-    let opened = Desk::new().open(Request::GetSignalQuality, b"", b"", &mut command);
+    let opened = open(mode, &mut command);
     let answer = opened.answer;
     let Encoded::Size(n) = answer else {
         return;

@@ -1,16 +1,16 @@
 -- Laws of the requests by number, of a command that is written, and of an open on lent parts.
 use Prim.Native.Nat.{ℕ, _≤_}
-use mathlib.Core.Path.{_≡_, sym, ap, _∙_}
+use mathlib.Core.Path.{_≡_, refl, sym}
 use mathlib.Core.List.{List}
 use mathlib.Core.Option.{Option, none, some}
 use lib.ListN.{length, List·getD-eq-default}
 use Rattle.text.specs.Reading.{Reading, read, refused, mapped}
 use Rattle.at_command.specs.Request.{Asked, encodeReading, written}
 use Rattle.desk.specs.Desk.{Opened}
+use Rattle.desk.specs.Rules.{Mode}
 use Rattle.text.proofs.Tests.{never}
-use Rattle.desk.proofs.Unchanged.{opened-same}
-use Rattle.sim7000.specs.Parts.{numbersOf}
-use Rattle.sim7000.specs.Command.{requests, askedBy, writeLeft, writeLeaves, writes, openLeft, openedOn, opens}
+use Rattle.desk.proofs.Opening.{opened-same}
+use Rattle.sim7000.specs.Command.{requests, askedBy, writeLeft, writeLeaves, writes, openLeft, openLeaves, openedOn, opens}
 
 -- ---- no request has that number
 
@@ -42,20 +42,19 @@ module _ (o : Option Asked) (out : List ℕ) (size : ℕ) where
         go (read command) f = cc
         go (refused j) f = never (cc)
 
--- ---- open
+-- ---- open, in both modes
 
-module _ (o : Option Asked) (line state out : List ℕ) (size : ℕ) where
-  pub opens-none : none ≡ o → openLeft 3 state out size ≡ opens o line state out size
+module _ (mode : Mode) (o : Option Asked) (line state sent out : List ℕ) (size : ℕ) where
+  pub opens-none : none ≡ o → openLeft 3 state sent out size ≡ opens mode o line state sent out size
   unfolding opens
   opens-none e = rw (sym e)
 
-  module _ {a : Asked} (is : some a ≡ o) (x : Opened) (made : x ≡ openedOn a line state out) where
-    pub opens-refused : {k : ℕ} → x .answer ≡ refused k → openLeft k state (x .out) size ≡ opens o line state out size
-    unfolding opens
-    opens-refused {k} e =
-        let f : openedOn a line state out .answer ≡ refused k = ap (λ (y : Opened). y .answer) (sym made) ∙ e in
-        rw (sym is, f, opened-same _ _ _ out x made e .1)
-
-    pub opens-size : {n : ℕ} → x .answer ≡ read n → openLeft 0 (numbersOf (x .state)) (x .out) n ≡ opens o line state out size
-    unfolding opens
-    opens-size e = rw (sym is, sym made, e)
+  -- what the desk's own open leaves in its parts; a refusal leaves them
+  pub opens-left : {a : Asked} → some a ≡ o → (x : Opened) → x ≡ openedOn mode a line state sent out
+      → openLeaves (x .answer) x state (x .state .command .sent) (x .out) size ≡ opens mode o line state sent out size
+  unfolding opens
+  opens-left is x made = rw (sym is, sym made) (go (x .answer) refl)
+    where
+      go : (y : Reading ℕ) → x .answer ≡ y → openLeaves y x state (x .state .command .sent) (x .out) size ≡ openLeaves y x state sent out size
+      go (read n) e = refl
+      go (refused k) e = let s = opened-same _ out _ _ made e in rw (s .0, s .1)

@@ -8,16 +8,17 @@ use lib.Dec.{ltb, eqb}
 use lib.ListN.{length, getD}
 use Rattle.at_command.specs.Kind.{Kind, genericOk, simError, writePrompt, closeOk, iccid, signalQuality, systemInfo, operatorInfo, networkTime, downloadInfo, imei, smsMessageFormat, smsMessage, placeOf, kindAt}
 use Rattle.at_command.proofs.KindPlaces.{at-place}
-use Rattle.desk.specs.Judge.{Command, awaiting}
+use Rattle.desk.specs.Judge.{Command}
 use Rattle.desk.specs.Desk.{State, resetState, fed}
 use Rattle.desk.proofs.Lives.{fed-few}
+use Rattle.desk.proofs.Unchanged.{fed-sent}
 use Rattle.sim7000.specs.Parts.{awaitedIn, numberOf, deskIn, numbersOf, resets}
 use Rattle.sim7000.proofs.Commands.{place-few, awaited-two}
 
 -- a reset of the numbers is a reset of the desk
-pub reset-says : (bytes state : List ℕ) → deskIn bytes (resets state) ≡ resetState (deskIn bytes state)
+pub reset-says : (line state sent : List ℕ) → deskIn line (resets state) sent ≡ resetState (deskIn line state sent)
 unfolding awaitedIn
-reset-says bytes state = refl
+reset-says line state sent = refl
 
 -- ---- the number of at most two answers is read back
 
@@ -53,8 +54,9 @@ number-back (a ∷ []) h = one-back a
 number-back (a ∷ b ∷ []) h = two-back a b
 number-back (a ∷ b ∷ k ∷ ks) h = absurd (omega arith)
 
-pub state-back : (s : State) → length (s .command .awaited) ≤ 2 → deskIn (s .wire .bytes) (numbersOf s) ≡ s
-state-back s h = ap (λ (ks : List Kind). record { wire = s .wire; command = awaiting ks }) (number-back (s .command .awaited) h)
+pub state-back : (s : State) → length (s .command .awaited) ≤ 2 → deskIn (s .wire .bytes) (numbersOf s) (s .command .sent) ≡ s
+state-back s h =
+    ap (λ (ks : List Kind). record { wire = s .wire; command = record { sent = s .command .sent; size = s .command .size; awaited = ks } }) (number-back (s .command .awaited) h)
 
 in-few : (n : ℕ) → length (awaitedIn n) ≤ 2
 unfolding awaitedIn
@@ -66,7 +68,14 @@ in-few n = go (eqb n 0) (ltb n 14) (ltb n 183)
     go false false true = omega arith
     go false false false = omega arith
 
-pub fed-two : (bytes state chunk text : List ℕ) → length (fed (deskIn bytes state) chunk text .state .command .awaited) ≤ 2
-fed-two bytes state chunk text = let h = fed-few (deskIn bytes state) chunk text in
-    let g = in-few (getD state 1 0) in
-    omega arith
+module _ (line state sent chunk text : List ℕ) where
+  fed-two : length (fed (deskIn line state sent) chunk text .state .command .awaited) ≤ 2
+  fed-two = let h = fed-few (deskIn line state sent) chunk text in
+      let g = in-few (getD state 1 0) in
+      omega arith
+
+  -- the numbers that a feed leaves are read back, beside what was sent, which it leaves
+  pub fed-back : let s = fed (deskIn line state sent) chunk text .state in deskIn (s .wire .bytes) (numbersOf s) sent ≡ s
+  fed-back =
+      let s = fed (deskIn line state sent) chunk text .state in
+      ap (deskIn (s .wire .bytes) (numbersOf s)) (sym (fed-sent (deskIn line state sent) chunk text)) ∙ state-back s fed-two

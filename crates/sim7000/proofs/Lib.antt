@@ -6,3 +6,4 @@ pub mod Asking
 pub mod One
 pub mod Desks
 pub mod Demand
+pub mod Lives

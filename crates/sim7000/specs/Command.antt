@@ -1,4 +1,5 @@
--- The requests by number, and what a call that writes a command leaves (document 01, "Refusal numbers"; of a number that is no request, docs/DECISIONS.md 27).
+-- The requests by number, and what a call that writes a command leaves (document 01, "Refusal numbers"; document 02, CR 4; of a number that is no request,
+-- docs/DECISIONS.md 27).
 use Prim.Native.Nat.{ℕ}
 use mathlib.Core.Path.{_≡_}
 use mathlib.Core.Bool.{cond}
@@ -7,9 +8,9 @@ use mathlib.Core.Option.{Option, none, some}
 use lib.Dec.{leb}
 use lib.ListN.{length, getD}
 use Rattle.text.specs.Reading.{Reading, read, refused}
-use Rattle.at_command.specs.Request.{Asked, getSignalQuality, showIccid, getImei, getOperatorInfo, setManualOperator, setAutomaticOperator, getSystemInfo, synchronizeNetworkTime, execute, downloadToFileSystem, getSmsMessageFormat, setSmsMessageFormat, readSms, answersTo, encodeReading, written}
-use Rattle.desk.specs.Judge.{awaiting}
+use Rattle.at_command.specs.Request.{Asked, getSignalQuality, showIccid, getImei, getOperatorInfo, setManualOperator, setAutomaticOperator, getSystemInfo, synchronizeNetworkTime, execute, downloadToFileSystem, getSmsMessageFormat, setSmsMessageFormat, readSms, encodeReading, written}
 use Rattle.desk.specs.Desk.{Opened, opened}
+use Rattle.desk.specs.Rules.{Mode, plainMode, echoMode, commandFor}
 use Rattle.sim7000.specs.Parts.{deskIn, numbersOf}
 
 -- ---- the requests
@@ -65,32 +66,38 @@ writes (some a) out size = writeLeaves (encodeReading a (length out)) out size
 abbrev pub ExportWriteKeeps : ℕ → ℕ → ℕ → List ℕ → List ℕ → List ℕ → ℕ → ℕ → List ℕ → ℕ → Type 0
 ExportWriteKeeps request number code first second out size r out′ size′ = writeLeft r out′ size′ ≡ writes (askedBy request number code first second) out size
 
--- ---- open
+-- ---- open, in both modes
 
--- the answer of `sim7000_open`, and what it leaves in each lent part
+-- the answer of an exported open, and what it leaves in each part, lent or not
 pub record OpenLeft : Type 0 where
   pub answer : ℕ
   pub state : List ℕ
+  pub sent : List ℕ
   pub out : List ℕ
   pub size : ℕ
 
-abbrev pub openLeft : ℕ → List ℕ → List ℕ → ℕ → OpenLeft
-openLeft answer state out size = record { answer = answer; state = state; out = out; size = size }
+abbrev pub openLeft : ℕ → List ℕ → List ℕ → List ℕ → ℕ → OpenLeft
+openLeft answer state sent out size = record { answer = answer; state = state; sent = sent; out = out; size = size }
 
-abbrev pub openLeaves : Reading ℕ → Opened → List ℕ → List ℕ → ℕ → OpenLeft
-openLeaves (read n) o state out size = openLeft 0 (numbersOf (o .state)) (o .out) n
-openLeaves (refused k) o state out size = openLeft k state out size
+abbrev pub openLeaves : Reading ℕ → Opened → List ℕ → List ℕ → List ℕ → ℕ → OpenLeft
+openLeaves (read n) o state sent out size = openLeft 0 (numbersOf (o .state)) (o .state .command .sent) (o .out) n
+openLeaves (refused k) o state sent out size = openLeft k state sent out size
 
 -- the desk's own open, on the desk that the lent parts are
-abbrev pub openedOn : Asked → List ℕ → List ℕ → List ℕ → Opened
-openedOn a line state out = opened (deskIn line state) (awaiting (answersTo a)) (encodeReading a (length out)) out
+abbrev pub openedOn : Mode → Asked → List ℕ → List ℕ → List ℕ → List ℕ → Opened
+openedOn mode a line state sent out = opened (deskIn line state sent) (commandFor mode a) (encodeReading a (length out)) out
 
 -- 3 where there is no such request, before 8 and 9 too; else what the desk says. A refusal leaves all as it was.
-unfoldable pub opens : Option Asked → List ℕ → List ℕ → List ℕ → ℕ → OpenLeft
-opens none line state out size = openLeft 3 state out size
-opens (some a) line state out size = openLeaves (openedOn a line state out .answer) (openedOn a line state out) state out size
+unfoldable pub opens : Mode → Option Asked → List ℕ → List ℕ → List ℕ → List ℕ → ℕ → OpenLeft
+opens mode none line state sent out size = openLeft 3 state sent out size
+opens mode (some a) line state sent out size = openLeaves (openedOn mode a line state sent out .answer) (openedOn mode a line state sent out) state sent out size
 
--- the contract of `sim7000_open`: no open looks at the line's bytes, so it holds whatever they are
+-- the contract of `sim7000_open`: no open looks at the line's bytes, and this one not at what was sent, so it holds whatever they are
 abbrev pub ExportOpenKeeps : List ℕ → ℕ → ℕ → ℕ → List ℕ → List ℕ → List ℕ → ℕ → ℕ → List ℕ → List ℕ → ℕ → Type 0
 ExportOpenKeeps state request number code first second out size r state′ out′ size′ =
-    (line : List ℕ) → length line ≡ 257 → openLeft r state′ out′ size′ ≡ opens (askedBy request number code first second) line state out size
+    (line sent : List ℕ) → length line ≡ 257 → openLeft r state′ sent out′ size′ ≡ opens plainMode (askedBy request number code first second) line state sent out size
+
+-- the contract of `sim7000_open_echo`, which is lent what was sent and keeps the command there
+abbrev pub ExportOpenEchoKeeps : List ℕ → List ℕ → ℕ → ℕ → ℕ → List ℕ → List ℕ → List ℕ → ℕ → ℕ → List ℕ → List ℕ → List ℕ → ℕ → Type 0
+ExportOpenEchoKeeps state sent request number code first second out size r state′ sent′ out′ size′ =
+    (line : List ℕ) → length line ≡ 257 → openLeft r state′ sent′ out′ size′ ≡ opens echoMode (askedBy request number code first second) line state sent out size

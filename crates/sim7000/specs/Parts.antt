@@ -1,6 +1,7 @@
--- The desk in lent parts (document 01, "The desk (added)"; docs/DECISIONS.md 28): the 257 bytes of the line that is coming, and two numbers, `state`. The first number counts
--- the bytes held, and above 257 the line is being dropped; the second is the command. Every number has a meaning, so no state is ill-formed, and
--- zeros are a new desk.
+-- The desk in lent parts (document 01, "The desk (added)"; document 02, CR 4; docs/DECISIONS.md 28): the 257 bytes of the line that is coming, three numbers,
+-- `state`, and the 210 bytes of what was sent. The first number counts the bytes held, and above 257 the line is being dropped; the second is the answers that the
+-- command awaits; the third is the size of the echo that comes before them, and 0, or above 210, where none does. Every number has a meaning, so no state is
+-- ill-formed, and zeros are a new desk.
 use Prim.Native.Nat.{ℕ, _+_, _-_, _*_, _/_, _%_}
 use mathlib.Core.Path.{_≡_}
 use mathlib.Core.Bool.{cond}
@@ -9,7 +10,7 @@ use lib.Dec.{ltb, eqb}
 use lib.ListN.{getD}
 use Rattle.text.specs.Reading.{Reading, read, refused}
 use Rattle.at_command.specs.Kind.{Kind, placeOf, kindAt}
-use Rattle.desk.specs.Judge.{eventNumber, strayNumber, awaiting}
+use Rattle.desk.specs.Judge.{eventNumber, strayNumber}
 use Rattle.desk.specs.Desk.{State, resetState, Heard, quiet, event, Fed, fed}
 
 -- ---- the command
@@ -29,15 +30,16 @@ numberOf (a ∷ b ∷ ks) = 14 + 13 * placeOf a + placeOf b
 
 -- ---- the desk
 
-abbrev pub deskIn : List ℕ → List ℕ → State
-deskIn line state = record { wire = record { bytes = line; len = getD state 0 0 }; command = awaiting (awaitedIn (getD state 1 0)) }
+abbrev pub deskIn : List ℕ → List ℕ → List ℕ → State
+deskIn line state sent =
+    record { wire = record { bytes = line; len = getD state 0 0 }; command = record { sent = sent; size = getD state 2 0; awaited = awaitedIn (getD state 1 0) } }
 
 abbrev pub numbersOf : State → List ℕ
-numbersOf s = s .wire .len ∷ numberOf (s .command .awaited) ∷ []
+numbersOf s = s .wire .len ∷ numberOf (s .command .awaited) ∷ s .command .size ∷ []
 
--- what `sim7000_reset` leaves in the two numbers, whatever the line's bytes are
+-- what `sim7000_reset` leaves in the numbers, whatever the bytes are
 abbrev pub resets : List ℕ → List ℕ
-resets state = numbersOf (resetState (deskIn [] state))
+resets state = numbersOf (resetState (deskIn [] state []))
 
 -- the contract of `sim7000_reset`; a primed name is what is lent, as it is after the call
 abbrev pub ExportResetKeeps : List ℕ → List ℕ → Type 0
@@ -67,10 +69,10 @@ abbrev pub feedLeft : ℕ → List ℕ → List ℕ → List ℕ → List ℕ �
 feedLeft answer line state text told = record { answer = answer; line = line; state = state; text = text; told = told }
 
 -- the desk's own feed, on the desk that the lent parts are
-unfoldable pub feeds : List ℕ → List ℕ → List ℕ → List ℕ → List ℕ → FeedLeft
-feeds line state chunk text told =
-    leftBy (fed (deskIn line state) chunk text .answer) (fed (deskIn line state) chunk text) (feedLeft 0 line state text told)
+unfoldable pub feeds : List ℕ → List ℕ → List ℕ → List ℕ → List ℕ → List ℕ → FeedLeft
+feeds line state sent chunk text told =
+    leftBy (fed (deskIn line state sent) chunk text .answer) (fed (deskIn line state sent) chunk text) (feedLeft 0 line state text told)
 
--- the contract of `sim7000_feed`
-abbrev pub ExportFeedKeeps : List ℕ → List ℕ → List ℕ → List ℕ → List ℕ → ℕ → List ℕ → List ℕ → List ℕ → List ℕ → Type 0
-ExportFeedKeeps line state chunk text told r line′ state′ text′ told′ = feedLeft r line′ state′ text′ told′ ≡ feeds line state chunk text told
+-- the contract of `sim7000_feed`, which is lent what was sent to read
+abbrev pub ExportFeedKeeps : List ℕ → List ℕ → List ℕ → List ℕ → List ℕ → List ℕ → ℕ → List ℕ → List ℕ → List ℕ → List ℕ → Type 0
+ExportFeedKeeps line state sent chunk text told r line′ state′ text′ told′ = feedLeft r line′ state′ text′ told′ ≡ feeds line state sent chunk text told

@@ -9,6 +9,7 @@ mod values;
 
 pub use crate::parts::sim7000_feed;
 pub use crate::parts::sim7000_open;
+pub use crate::parts::sim7000_open_echo;
 pub use crate::parts::sim7000_reset;
 pub use crate::read::sim7000_read_line;
 pub use crate::read::sim7000_sort_line;

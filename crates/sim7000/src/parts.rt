@@ -4,21 +4,41 @@ use crate::request;
 use crate::request::Wanted;
 use at_command::request::Encoded;
 use desk::FedAnswer;
-ghost use Rattle.sim7000.specs.Command.{ExportOpenKeeps};
+use desk::OpenedParts;
+ghost use Rattle.sim7000.specs.Command.{ExportOpenKeeps, ExportOpenEchoKeeps};
 ghost use Rattle.sim7000.specs.Parts.{ExportResetKeeps, ExportFeedKeeps};
+ghost use Rattle.sim7000.specs.says.Left.{LeaveKeeps};
 
-// Zeros are the state after it: idle, and nothing held.
+// Zeros are the state after it: idle, no echo awaited, and nothing held.
 #[no_mangle]
-pub extern "C" fn sim7000_reset(state: &mut [u64; 2])
+pub extern "C" fn sim7000_reset(state: &mut [u64; 3])
     ensures { λ _. ⌜ ExportResetKeeps (now (state .entry)) (now (state .exit)) ⌝ }
 {
-    *state = [0, 0];
+    *state = [0, 0, 0];
 }
 
-// A command is opened and written. No open looks at the line's bytes, so they are not lent.
+// What an open leaves in the numbers; a refusal leaves them.
+fn leave(opened: OpenedParts, state: &mut [u64; 3], size: &mut u64) -> u8
+    ensures { λ r. ⌜ LeaveKeeps opened (now (state .entry)) (now (size .entry)) r (now (state .exit)) (now (size .exit)) ⌝ }
+{
+    let answer = opened.answer;
+    match answer {
+        Encoded::Refused(k) => k,
+        Encoded::Size(n) => {
+            let after = opened.command;
+            let held = state[0];
+            let awaited = numbers::number_of(after);
+            *state = [held, awaited, numbers::number_in(opened.echo)];
+            *size = numbers::number_in(n);
+            0
+        }
+    }
+}
+
+// A command is opened and written. No open looks at the line's bytes, and this one not at what was sent, so they are not lent.
 #[no_mangle]
 pub extern "C" fn sim7000_open(
-    state: &mut [u64; 2],
+    state: &mut [u64; 3],
     request: u8,
     number: u16,
     code: u8,
@@ -33,20 +53,39 @@ pub extern "C" fn sim7000_open(
     match wanted {
         Wanted::Not => 3,
         Wanted::Is(q) => {
-            let held = state[0];
+            let len = numbers::size_in(state[0]);
             let command = numbers::command_in(state[1]);
-            let opened = desk::open_on(numbers::size_in(held), command, q, first, second, out);
-            let after = opened.command;
-            let answer = opened.answer;
-            match answer {
-                Encoded::Refused(k) => k,
-                Encoded::Size(n) => {
-                    let awaited = numbers::number_of(after);
-                    *state = [held, awaited];
-                    *size = numbers::number_in(n);
-                    0
-                }
-            }
+            let echo = numbers::size_in(state[2]);
+            let opened = desk::open_on(len, command, echo, q, first, second, out);
+            leave(opened, state, size)
+        }
+    }
+}
+
+// The same for a modem with echo on: what is written is kept in `sent`, and until it comes back as a line no answer is taken for it.
+#[no_mangle]
+pub extern "C" fn sim7000_open_echo(
+    state: &mut [u64; 3],
+    sent: &mut [u8; 210],
+    request: u8,
+    number: u16,
+    code: u8,
+    first: &[u8],
+    second: &[u8],
+    out: &mut [u8],
+    size: &mut u64,
+) -> u8
+    ensures { λ r. ⌜ ExportOpenEchoKeeps (now (state .entry)) (now (sent .entry)) request number code (now (first .entry)) (now (second .entry)) (now (out .entry)) (now (size .entry)) r (now (state .exit)) (now (sent .exit)) (now (out .exit)) (now (size .exit)) ⌝ }
+{
+    let wanted = request::request_in(request, number, code);
+    match wanted {
+        Wanted::Not => 3,
+        Wanted::Is(q) => {
+            let len = numbers::size_in(state[0]);
+            let command = numbers::command_in(state[1]);
+            let echo = numbers::size_in(state[2]);
+            let opened = desk::open_echo_on(len, command, sent, echo, q, first, second, out);
+            leave(opened, state, size)
         }
     }
 }
@@ -55,31 +94,34 @@ pub extern "C" fn sim7000_open(
 #[no_mangle]
 pub extern "C" fn sim7000_feed(
     line: &mut [u8; 257],
-    state: &mut [u64; 2],
+    state: &mut [u64; 3],
+    sent: &[u8; 210],
     chunk: &[u8],
     text: &mut [u8],
     told: &mut [u64; 4],
 ) -> u8
-    ensures { λ r. ⌜ ExportFeedKeeps (now (line .entry)) (now (state .entry)) (now (chunk .entry)) (now (text .entry)) (now (told .entry)) r (now (line .exit)) (now (state .exit)) (now (text .exit)) (now (told .exit)) ⌝ }
+    ensures { λ r. ⌜ ExportFeedKeeps (now (line .entry)) (now (state .entry)) (now (sent .entry)) (now (chunk .entry)) (now (text .entry)) (now (told .entry)) r (now (line .exit)) (now (state .exit)) (now (text .exit)) (now (told .exit)) ⌝ }
 {
     let len = numbers::size_in(state[0]);
     let command = numbers::command_in(state[1]);
-    let fed = desk::feed_on(line, len, command, chunk, text);
+    let echo = numbers::size_in(state[2]);
+    let fed = desk::feed_on(line, len, command, sent, echo, chunk, text);
     let after = fed.command;
     let answer = fed.answer;
     let held = numbers::number_in(fed.len);
     let awaited = numbers::number_of(after);
+    let kept = numbers::number_in(fed.echo);
     match answer {
         FedAnswer::Refused(k) => k,
         FedAnswer::Quiet(taken) => {
-            *state = [held, awaited];
+            *state = [held, awaited, kept];
             *told = [0, numbers::number_in(taken), 0, 0];
             0
         }
         FedAnswer::Heard { event, taken, size } => {
             let kind = event.number();
             let stray = event.stray();
-            *state = [held, awaited];
+            *state = [held, awaited, kept];
             *told = [
                 kind,
                 numbers::number_in(taken),

@@ -1,11 +1,11 @@
 -- A line that begins with a text is that text and what follows it. Assumes nothing.
 use mathlib.Core.Path.{_≡_, refl, ap, sym, subst, _∙_}
 use mathlib.Core.Bool.{Bool, true, _&&_}
-use mathlib.Core.List.{List, [], _∷_, _++_}
+use mathlib.Core.List.{List, [], _∷_, _++_, append-nil}
 use Prim.Native.Nat.{ℕ, _≤_}
 use native.Mathlib.Omega.{arith}
 use lib.Dec.{eqb}
-use lib.ListN.{length, drop, length-append}
+use lib.ListN.{length, drop, length-append, drop-of-length-le}
 use borrow.Author.Tests.{eqb-true}
 use Rattle.text.specs.Bytes.{startsWith, same}
 use Rattle.text.proofs.Tests.{never, and-left, and-right}
@@ -26,6 +26,14 @@ begins-with P p s f e = subst P (sym (begins-split p s e)) (f (drop (length p) s
 pub begins-same : (p s : List ℕ) → same s p ≡ true → startsWith p s ≡ true
 unfolding same
 begins-same p s e = and-right (eqb (length s) (length p)) _ e
+
+-- a line that is a text is that text
+pub same-is : (s t : List ℕ) → same s t ≡ true → s ≡ t
+unfolding same
+same-is s t e =
+    let n = eqb-true (length s) (length t) (and-left _ _ e) in
+    let few : length s ≤ length t = omega arith in
+    begins-split t s (begins-same t s e) ∙ ap (λ (l : List ℕ). t ++ l) (drop-of-length-le s few) ∙ append-nil t
 
 pub begins-size : (p s : List ℕ) → startsWith p s ≡ true → length p ≤ length s
 begins-size p s e = let z = ap length (begins-split p s e) ∙ length-append p (drop (length p) s) in omega arith

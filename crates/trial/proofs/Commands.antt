@@ -15,7 +15,7 @@ use Rattle.text.proofs.Tests.{never}
 use Rattle.at_command.specs.Response.{Response}
 use Rattle.at_command.specs.Request.{bodyOf, commandOf}
 use Rattle.at_command.proofs.Commands.{body-begins, command-begins, body-size, command-size, body-ascii, command-ascii, encode-gives}
-use Rattle.at_command.proofs.NoResponse.{reserved, no-readings}
+use Rattle.at_command.proofs.NoResponse.{reserved, no-readings, no-operator}
 use Rattle.unsolicited.specs.Urc.{Unsolicited, urcReadings, begins}
 use Rattle.trial.specs.Answer.{Said, response, unsolicited, allReadings, saidText, lineSaid}
 use Rattle.trial.specs.Commands.{NoneReads, CommandsUnread}
@@ -24,10 +24,14 @@ use Rattle.trial.proofs.Apart.{urcs-not}
 
 -- of a line that begins so
 module _ (l : List ℕ) (e : startsWith (bytes "A") l ≡ true) where
+  is-reserved : reserved l ≡ true
+  unfolding reserved
+  is-reserved = begins-with (λ (s : List ℕ). reserved s ≡ true) (bytes "A") l (λ t. refl) e
+
   all-unread : allReadings l ≡ replicate 17 (refused 3)
-  unfolding allReadings reserved begins startsWith mapped
+  unfolding allReadings begins startsWith mapped
   all-unread =
-      ap (λ (rs : List (Reading Response)). each response rs ++ each unsolicited (urcReadings l)) (no-readings l (begins-with (λ (s : List ℕ). reserved s ≡ true) (bytes "A") l (λ t. refl) e))
+      ap (λ (rs : List (Reading Response)). each response rs ++ each unsolicited (urcReadings l)) (no-readings l is-reserved)
       ∙ ap (λ (us : List (Reading Unsolicited)). each response (replicate 13 (refused 3)) ++ each unsolicited us) (urcs-not l (begins-with (λ (s : List ℕ). begins s ≡ false) (bytes "A") l (λ t. refl) e))
 
   trial-refuses : saidText l ≡ refused 3
@@ -44,7 +48,7 @@ module _ (l : List ℕ) (e : startsWith (bytes "A") l ≡ true) where
       go false k = never (cc)
 
   pub none-reads : length l ≤ 256 → allWithin 0 0x7F l ≡ true → NoneReads l
-  none-reads h a = record { passes = check-ascii l h a; refuse = all-unread }
+  none-reads h a = record { passes = check-ascii l h a; refuse = all-unread; operator = no-operator l is-reserved }
 
 -- what a line that none reads says, and what it is to a desk
 module _ (l : List ℕ) (h : NoneReads l) where
@@ -56,8 +60,8 @@ module _ (l : List ℕ) (h : NoneReads l) where
   unfolding lineSort mapped
   unread-sort = ap (mapped sortOf) unread-said
 
--- as every command does
-at-front : (l : List ℕ) → startsWith (bytes "AT+") l ≡ true → startsWith (bytes "A") l ≡ true
+-- every command does so: it begins with "AT+"
+pub at-front : (l : List ℕ) → startsWith (bytes "AT+") l ≡ true → startsWith (bytes "A") l ≡ true
 unfolding startsWith
 at-front l = begins-with (λ (s : List ℕ). startsWith (bytes "A") s ≡ true) (bytes "AT+") l (λ t. refl)
 

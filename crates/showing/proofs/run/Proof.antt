@@ -1,9 +1,9 @@
 -- Safe, and it ends: each turn uses up one of its count. Assumes nothing.
-use Rattle.showing.proofs.run.Statement.{statement}
-use Rattle.showing.proofs.run.Tie as tie
 use mathlib.Core.Path.{_≡_}
 use lib.ListN.{length}
 use borrow.Author.Needs.{needs}
+use Rattle.showing.proofs.run.Statement.{statement}
+use Rattle.showing.proofs.run.Tie as tie
 
 abbrev Inv-loop : tie.InvT-loop
 Inv-loop n d₀ buffer₀ turns₀ d buffer turns = 65536 ≡ length buffer
@@ -17,9 +17,6 @@ run-spec =
     (tie.spec
     Inv-loop
     μ-loop
-    (λ c κs. search needs)
-    (λ c. search needs)
-    (λ c. search needs)
     (λ c. search needs)
     (λ c κs. search needs)
     (λ c. search needs)

@@ -1,0 +1,238 @@
+//! The desk's exports as C calls them, on lent parts: states and requests that no wrapper makes, and every lent byte before and after.
+
+// names the library, whose archive is linked with it
+use sim7000 as _;
+
+#[allow(dead_code)]
+#[path = "../src/raw.rs"]
+mod raw;
+
+#[derive(Debug, Clone, PartialEq)]
+struct Parts {
+    line: [u8; 257],
+    sent: [u8; 210],
+    state: [u64; 3],
+}
+
+/// All that an open is lent to write to.
+#[derive(Debug, Clone, PartialEq)]
+struct Lent {
+    desk: Parts,
+    out: Vec<u8>,
+    size: u64,
+}
+
+struct Asked<'a> {
+    request: u8,
+    first: &'a [u8],
+    second: &'a [u8],
+}
+
+const SIGNAL: Asked = Asked { request: 0, first: b"", second: b"" };
+
+fn parts(sent: [u8; 210], state: [u64; 3]) -> Parts {
+    Parts { line: [0x55; 257], sent, state }
+}
+
+/// The bytes in front, and 0xAA behind them.
+fn sent(front: &[u8]) -> [u8; 210] {
+    let mut all = [0xaa; 210];
+    all[..front.len()].copy_from_slice(front);
+    all
+}
+
+fn lent(desk: Parts, out: usize) -> Lent {
+    Lent { desk, out: vec![7; out], size: 99 }
+}
+
+fn open(lent: &mut Lent, a: &Asked) -> u8 {
+    let (first, second, out) = (a.first, a.second, &mut lent.out);
+    unsafe {
+        raw::sim7000_open(
+            &mut lent.desk.state,
+            a.request,
+            300,
+            1,
+            first.as_ptr(),
+            first.len(),
+            second.as_ptr(),
+            second.len(),
+            out.as_mut_ptr(),
+            out.len(),
+            &mut lent.size,
+        )
+    }
+}
+
+fn open_echo(lent: &mut Lent, a: &Asked) -> u8 {
+    let (first, second, out) = (a.first, a.second, &mut lent.out);
+    unsafe {
+        raw::sim7000_open_echo(
+            &mut lent.desk.state,
+            &mut lent.desk.sent,
+            a.request,
+            300,
+            1,
+            first.as_ptr(),
+            first.len(),
+            second.as_ptr(),
+            second.len(),
+            out.as_mut_ptr(),
+            out.len(),
+            &mut lent.size,
+        )
+    }
+}
+
+fn feed(desk: &mut Parts, chunk: &[u8], text: &mut [u8], told: &mut [u64; 4]) -> u8 {
+    unsafe { raw::sim7000_feed(&mut desk.line, &mut desk.state, &desk.sent, chunk.as_ptr(), chunk.len(), text.as_mut_ptr(), text.len(), told) }
+}
+
+/// Each event's number, its stray number and its line, from bytes that come in chunks of so many.
+fn events(desk: &mut Parts, bytes: &[u8], chunk: usize) -> Vec<(u64, u64, Vec<u8>)> {
+    let (mut text, mut told, mut all) = ([0; 256], [0; 4], Vec::new());
+    let kept = desk.sent;
+    for mut rest in bytes.chunks(chunk) {
+        while !rest.is_empty() {
+            assert_eq!(feed(desk, rest, &mut text, &mut told), 0);
+            if told[0] != 0 {
+                all.push((told[0], told[3], text[..told[2] as usize].to_vec()));
+            }
+            rest = &rest[told[1] as usize..];
+        }
+    }
+    assert_eq!(desk.sent, kept);
+    all
+}
+
+const LATE: &[u8] = b"+CSQ: 5,0\r\nAT+CSQ\r\r\n+CSQ: 31,99\r\nOK\r\n";
+
+fn late(first: u64, echo: (u64, u64), second: u64, last: (u64, u64)) -> Vec<(u64, u64, Vec<u8>)> {
+    vec![(first, 0, b"+CSQ: 5,0".to_vec()), (echo.0, echo.1, b"AT+CSQ\r".to_vec()), (second, 0, b"+CSQ: 31,99".to_vec()), (last.0, last.1, b"OK".to_vec())]
+}
+
+/// `LATE` with AT+CSQ's echo awaited, and with the command open and none awaited.
+fn with_echo() -> Vec<(u64, u64, Vec<u8>)> {
+    late(6, (8, 0), 2, (3, 0))
+}
+
+fn without_echo() -> Vec<(u64, u64, Vec<u8>)> {
+    late(2, (6, 3), 6, (3, 0))
+}
+
+/// One fault after the other is mended; what is refused changes nothing that was lent.
+fn each_refusal(opens: fn(&mut Lent, &Asked) -> u8) {
+    let (long, good) = ([b'\n'; 65], [b'"'; 64]);
+    // open, held, too long, not plain and too short at once
+    let mut all = lent(parts([0xaa; 210], [3, 6, 7]), 209);
+    let mut url: &[u8] = &long;
+    for refusal in [3, 8, 9, 5, 6, 7] {
+        match refusal {
+            9 => all.desk.state[1] = 0,
+            5 => all.desk.state[0] = 0,
+            6 => url = &long[..64],
+            7 => url = &good,
+            _ => {}
+        }
+        for state in [0, 7, 210, 211, u64::MAX] {
+            all.desk.state[2] = state;
+            let before = all.clone();
+            assert_eq!(opens(&mut all, &Asked { request: if refusal == 3 { 13 } else { 9 }, first: url, second: &good[..32] }), refusal);
+            assert_eq!(all, before);
+        }
+    }
+    all.out.push(7);
+    assert_eq!(opens(&mut all, &Asked { request: 9, first: url, second: &good[..32] }), 0);
+    assert_eq!(all.size, 210);
+}
+
+#[test]
+fn a_refused_open_changes_nothing() {
+    each_refusal(open);
+    each_refusal(open_echo);
+    for request in 13..=255 {
+        let mut all = lent(parts([0xaa; 210], [0; 3]), 64);
+        let before = all.clone();
+        assert_eq!(open_echo(&mut all, &Asked { request, ..SIGNAL }), 3);
+        assert_eq!(all, before);
+    }
+}
+
+#[test]
+fn an_open_keeps_the_command_in_front() {
+    for old in [0, 7, 211, u64::MAX] {
+        let mut all = lent(parts([0xaa; 210], [0, 0, old]), 64);
+        assert_eq!(open_echo(&mut all, &SIGNAL), 0);
+        assert_eq!((&all.out[..7], all.size, all.desk.state[0], all.desk.state[2]), (&b"AT+CSQ\r"[..], 7, 0, 7));
+        assert!(all.out[7..].iter().all(|&byte| byte == 7));
+        assert_eq!(all.desk.sent, sent(b"AT+CSQ\r"));
+        all.out.fill(0);
+        for chunk in 1..=LATE.len() {
+            assert_eq!(events(&mut all.desk.clone(), LATE, chunk), with_echo());
+        }
+    }
+}
+
+#[test]
+fn bytes_behind_the_kept_command_do_not_matter() {
+    let mut all = lent(parts([0; 210], [0; 3]), 64);
+    assert_eq!(open_echo(&mut all, &SIGNAL), 0);
+    for fill in [0, b'\r', b'\n', b'Q', 0xaa] {
+        let mut desk = all.desk.clone();
+        desk.sent[7..].fill(fill);
+        assert_eq!(events(&mut desk, LATE, LATE.len()), with_echo());
+    }
+}
+
+#[test]
+fn a_plain_open_awaits_no_echo_whatever_was_kept() {
+    for old in [0, 7, 210, 211, u64::MAX] {
+        let mut all = lent(parts(sent(b"AT+CSQ\r"), [0, 0, old]), 64);
+        assert_eq!(open(&mut all, &SIGNAL), 0);
+        assert_eq!(all.desk.state[2], 0);
+        assert_eq!(events(&mut all.desk, LATE, 5), without_echo());
+    }
+}
+
+#[test]
+fn a_size_above_210_awaits_none() {
+    let mut all = lent(parts([0; 210], [0; 3]), 64);
+    assert_eq!(open(&mut all, &SIGNAL), 0);
+    for size in [0, 211, 257, 1 << 32, (1 << 32) + 7, u64::MAX] {
+        let mut desk = parts(sent(b"AT+CSQ\r"), [0, all.desk.state[1], size]);
+        let expected = vec![(6, 3, b"AT+CSQ\r".to_vec()), (2, 0, b"+CSQ: 31,99".to_vec()), (3, 0, b"OK".to_vec())];
+        assert_eq!(events(&mut desk, b"AT+CSQ\r\r\n+CSQ: 31,99\r\nOK\r\n", 4), expected);
+    }
+}
+
+/// No content is ill-formed: an echo that is awaited while no command is open, and one that is no command.
+#[test]
+fn any_kept_bytes_are_awaited() {
+    let mut desk = parts(sent(b"AT+CSQ\r"), [0, 0, 7]);
+    assert_eq!(events(&mut desk, LATE, 3), late(6, (8, 0), 6, (6, 0)));
+    assert_eq!(desk.state[2], 0);
+    let mut desk = parts([b'z'; 210], [0, 0, 210]);
+    let line = vec![b'z'; 210];
+    let bytes = [&line[..209], b"\n", &line, b"\n", &line, b"\n"].concat();
+    assert_eq!(events(&mut desk, &bytes, 100), [(6, 3, line[..209].to_vec()), (8, 0, line.clone()), (6, 3, line)]);
+}
+
+#[test]
+fn a_reset_awaits_none_and_leaves_what_was_kept() {
+    let mut all = lent(parts([0xaa; 210], [0; 3]), 64);
+    assert_eq!(open_echo(&mut all, &SIGNAL), 0);
+    unsafe { raw::sim7000_reset(&mut all.desk.state) };
+    assert_eq!(all.desk.state, [0; 3]);
+    assert_eq!(events(&mut all.desk.clone(), b"AT+CSQ\n", 7), [(6, 3, b"AT+CSQ".to_vec())]);
+    assert_eq!(open(&mut all, &SIGNAL), 0);
+    assert_eq!(events(&mut all.desk, b"AT+CSQ\n+CSQ: 31,99\n", 4), [(6, 3, b"AT+CSQ".to_vec()), (2, 0, b"+CSQ: 31,99".to_vec())]);
+}
+
+#[test]
+fn a_refused_feed_changes_nothing() {
+    let mut all = lent(parts([0xaa; 210], [0; 3]), 64);
+    assert_eq!(open_echo(&mut all, &SIGNAL), 0);
+    let (before, mut text, mut told) = (all.clone(), [7; 255], [9; 4]);
+    assert_eq!(feed(&mut all.desk, LATE, &mut text, &mut told), 10);
+    assert_eq!((all, text, told), (before, [7; 255], [9; 4]));
+}

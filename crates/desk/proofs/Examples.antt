@@ -1,0 +1,53 @@
+-- The runs of specs/Examples.antt, computed.
+use Prim.Native.Nat.{ℕ}
+use mathlib.Core.Path.{_≡_, refl, ap, _∙_}
+use mathlib.Core.List.{List, []}
+use lib.ListN.{replicate}
+use Rattle.text.specs.Bytes.{startsWith, same, endsWith, has}
+use Rattle.text.specs.Line.{lineCheck, checked}
+use Rattle.text.specs.Number.{digitValue, digitsOf, valueOf, magnitude, unsigned, signed}
+use Rattle.text.specs.Reading.{Reading, read, only, either, sized, need, mapped, firstOf}
+use Rattle.text.specs.Utf8.{charSize, behind, utf8}
+use Rattle.at_command.specs.Ccid.{cardText, iccidText}
+use Rattle.at_command.specs.Cmgf.{cmgfText}
+use Rattle.at_command.specs.Cmgr.{cmgrText}
+use Rattle.at_command.specs.Cntp.{cntpText}
+use Rattle.at_command.specs.Cops.{copsText}
+use Rattle.at_command.specs.Cpsi.{cpsiText}
+use Rattle.at_command.specs.Csq.{levelOf, csqCodes, csqRest, csqText}
+use Rattle.at_command.specs.Generic.{okText, errorText, promptText, closeText}
+use Rattle.at_command.specs.Gsn.{imeiText}
+use Rattle.at_command.specs.Httptofs.{httptofsText}
+use Rattle.at_command.specs.Response.{readings}
+use Rattle.at_command.specs.Request.{getSignalQuality, commandOf}
+use Rattle.at_command.specs.declared.request.Request.the-variants.{GetSignalQuality}
+use Rattle.unsolicited.specs.Gnss.{ugnsinfText}
+use Rattle.unsolicited.specs.Registration.{cregText, cgregText, ceregStatus, ceregFields, ceregText}
+use Rattle.unsolicited.specs.Urc.{urcReadings}
+use Rattle.desk.specs.Cut.{bare, cutOne}
+use Rattle.trial.specs.Answer.{allReadings, saidText, lineSaid}
+use Rattle.trial.specs.Sort.{lineSort}
+use Rattle.desk.specs.Machine.{tells, judgeAll}
+use Rattle.desk.specs.Lines.{cutter}
+use Rattle.desk.specs.Judge.{table, isEcho, ruling, judge}
+use Rattle.desk.specs.Rules.{Mode, rulesOf, Plain, plain}
+use Rattle.desk.specs.Desk.{State, desk, resetState}
+use Rattle.desk.specs.Keeps.{openedBy}
+use Rattle.desk.specs.Examples.{csq, Examples}
+use Rattle.desk.specs.Demand.{accepts}
+use Rattle.desk.proofs.Commands.{command-some}
+use Rattle.desk.proofs.Demand.{by-view, plain-ruled, open-fresh}
+use Rattle.desk.proofs.Lives.{open-accepts}
+
+pub examples : Examples
+unfolding judgeAll judge ruling isEcho table lineSort lineSaid saidText allReadings urcReadings checked lineCheck utf8 charSize behind tells cutter cutOne bare startsWith same endsWith has only either sized need mapped firstOf readings okText errorText promptText closeText iccidText cardText csqText csqRest csqCodes levelOf cpsiText copsText cntpText httptofsText imeiText cmgfText cmgrText ugnsinfText cregText cgregText ceregText ceregFields ceregStatus unsigned signed magnitude digitsOf digitValue valueOf
+examples = record { shown = refl; echoed = refl; fault = refl }
+
+-- A command is given up with a reset, and the next is opened: whatever the desk's past, it tells what these rules give.
+pub after-reset : (mode : Mode) (s : State) (given : List ℕ) → tells desk (openedBy mode (resetState s) GetSignalQuality [] [] (replicate 256 0) .state) given ≡ rulesOf (csq mode) given
+after-reset mode s given =
+    by-view _ given
+    ∙ ap (λ (x : Plain). tells plain x given)
+    (open-fresh (resetState s) (csq mode) (command-some mode getSignalQuality) (replicate 256 0) (read (commandOf getSignalQuality))
+    (ap (λ (a : Reading ℕ). accepts a) (open-accepts (resetState s) (csq mode) (commandOf getSignalQuality) (replicate 256 0) refl refl refl .0)))
+    ∙ plain-ruled (csq mode) given

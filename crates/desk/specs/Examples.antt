@@ -1,0 +1,39 @@
+-- Runs worked out by the rules with AT+CSQ open, for a reader of the papers. Document 01's: an unsolicited line comes before the two answers. And document 02's,
+-- CR 4: the answers of an AT+CSQ that was given up come late, in both modes; and what Echo stands in place of.
+use Prim.Native.Nat.{ℕ}
+use mathlib.Core.Path.{_≡_}
+use mathlib.Core.Bool.{true}
+use mathlib.Core.List.{List, [], _∷_}
+use Rattle.text.specs.Bytes.{bytes}
+use Rattle.text.specs.Reading.{read}
+use Rattle.at_command.specs.Request.{Asked, getSignalQuality, Numbers, encodeReading}
+use Rattle.trial.specs.Sort.{lineSort}
+use Rattle.desk.specs.Judge.{Event, Taken, Done, Stray, Unsolicited, Echo, Seen, Command, stays, table, isEcho}
+use Rattle.desk.specs.Rules.{Mode, plainMode, echoMode, commandFor, rulesOf}
+
+abbrev pub csq : Mode → Command
+csq mode = commandFor mode getSignalQuality
+
+-- document 01's run
+abbrev pub input : List ℕ
+input = bytes "\r\n+CEREG: 5\r\n\r\n+CSQ: 31,99\r\n\r\nOK\r\n"
+
+-- the answers of an AT+CSQ that was given up, the echo of the next one as a modem sends it, and its answers
+abbrev pub late : List ℕ
+late = bytes "\r\n+CSQ: 5,0\r\n\r\nOK\r\nAT+CSQ\r\r\n\r\n+CSQ: 31,99\r\n\r\nOK\r\n"
+
+abbrev pub seen : Event → List ℕ → Seen
+seen e l = record { event = e; line = l }
+
+pub record Examples : Type 0 where
+  pub shown : rulesOf (csq plainMode) input ≡ seen Unsolicited (bytes "+CEREG: 5") ∷ seen Taken (bytes "+CSQ: 31,99") ∷ seen Done (bytes "OK") ∷ []
+  -- in echo mode the late answers are strays, and the true ones are taken
+  pub echoed : rulesOf (csq echoMode) late
+      ≡ seen (Stray 0) (bytes "+CSQ: 5,0") ∷ seen (Stray 0) (bytes "OK") ∷ seen Echo (bytes "AT+CSQ\r") ∷ seen Taken (bytes "+CSQ: 31,99") ∷ seen Done (bytes "OK") ∷ []
+  -- in plain mode the same bytes show the fault: the old signal goes to the paper, and the true one is a stray
+  pub fault : rulesOf (csq plainMode) late
+      ≡ seen Taken (bytes "+CSQ: 5,0") ∷ seen Done (bytes "OK") ∷ seen (Stray 3) (bytes "AT+CSQ\r") ∷ seen (Stray 0) (bytes "+CSQ: 31,99") ∷ seen (Stray 0) (bytes "OK") ∷ []
+
+-- A line that equals a command which a writer gave, with its CR or without, is a Stray 3 to every command by the table: so Echo stands in place of nothing else.
+abbrev pub EchoForStray : Type 0
+EchoForStray = (a : Asked) (room : ℕ) (w : List ℕ) → Numbers a → encodeReading a room ≡ read w → (l : List ℕ) → isEcho w l ≡ true → (c : Command) → table c (lineSort l) ≡ stays c (Stray 3)
