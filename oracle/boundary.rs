@@ -504,6 +504,7 @@ pub fn requests() -> Vec<Vec<u8>> {
             texts(filler.repeat(count).as_bytes(), &mut out);
         }
     }
+    operators(&mut out);
     for (url, path) in [(64, 32), (64, 33), (65, 32), (65, 33), (0, 0), (64, 0), (0, 32)] {
         for filler in ["x", "\"", "\\", "\u{1}"] {
             out.push(format!("DownloadToFileSystem\t{}\t{}", filler.repeat(url), filler.repeat(path)).into_bytes());
@@ -518,4 +519,25 @@ pub fn requests() -> Vec<Vec<u8>> {
     out.push(b"SynchronizeNetworkTime\t\x01\t1\t256".to_vec());
     out.push(b"SynchronizeNetworkTime\ta\t1\t\xff".to_vec());
     once(out)
+}
+
+/// Operator numbers (document 02, CR 2): five or six digits, one byte of them spoiled, every other length; 5 comes before 12, and 12 before 6.
+fn operators(out: &mut Vec<Vec<u8>>) {
+    let mut operator = |plmn: &[u8]| out.push([b"SetManualOperator\t", plmn].concat());
+    for plmn in ["64304", "310410", "00000", "000000", "99999", "999999", "64304\"", "\"64304", "\"6430\"", "64304 ", " 64304", "+64304", "-6430", "643.04", "6430\r", "643\u{663}", "0x1F4"] {
+        operator(plmn.as_bytes());
+    }
+    for length in 0..=9 {
+        operator(&b"643041072"[..length]);
+        operator(&vec![0; length]);
+    }
+    for length in 5..=7 {
+        for at in 0..length {
+            for byte in [0, 31, b'"', b'/', b':', b'a', 127, 128, 255] {
+                let mut plmn = b"6430410"[..length].to_vec();
+                plmn[at] = byte;
+                operator(&plmn);
+            }
+        }
+    }
 }

@@ -170,10 +170,7 @@ fn judge(tally: &mut Tally, kind: Kind, input: &[u8], rust: &[u8], ours: &[u8]) 
     if ours != owed.as_bytes() {
         return Some(format!("{} owes {}", entry, owed));
     }
-    if said.map_or(false, |said| rust != said.as_bytes()) {
-        return Some(format!("{} says that the Rust answers {}", entry, said.unwrap()));
-    }
-    None
+    said.filter(|said| rust != said.as_bytes()).map(|said| format!("{} says that the Rust answers {}", entry, said))
 }
 
 fn run(kind: Kind, seed: u64, count: usize) -> bool {

@@ -1,9 +1,9 @@
-//! Document 01's domain of equality, told from the input alone. Outside of it: the entry of docs/DIFFERENCES.md, and what each side then says.
+//! Document 01's domain of equality, as document 02 narrows it, told from the input alone. Outside of it: the entry of docs/DIFFERENCES.md, and what each side then says.
 
 use crate::texts::desk_numeral;
 use std::str::from_utf8;
 
-pub const ENTRIES: [(&str, &str); 9] = [
+pub const ENTRIES: [(&str, &str); 10] = [
     ("D1", "a line of more than 256 bytes"),
     ("D2", "a line that is not UTF-8"),
     ("D3", "an ICCID cut inside a character"),
@@ -13,17 +13,18 @@ pub const ENTRIES: [(&str, &str); 9] = [
     ("D7", "a float that is no desk numeral"),
     ("D8", "a request text that is too long"),
     ("D9", "a request text with a byte outside 32 to 126"),
+    ("D19", "an operator number that is not five or six digits"),
 ];
 
 /// `rust` is None where the entry leaves the Rust's answer open.
 pub struct Outside {
     pub entry: &'static str,
-    pub rust: Option<&'static str>,
+    pub rust: Option<String>,
     pub ours: &'static str,
 }
 
-fn outside(entry: &'static str, rust: Option<&'static str>, ours: &'static str) -> Option<Outside> {
-    Some(Outside { entry, rust, ours })
+fn outside(entry: &'static str, rust: Option<&str>, ours: &'static str) -> Option<Outside> {
+    Some(Outside { entry, rust: rust.map(str::to_string), ours })
 }
 
 const STOPS: Option<&str> = Some("stopped");
@@ -88,7 +89,7 @@ fn iccid_cut_inside(line: &str) -> bool {
 pub fn request(line: &[u8]) -> Option<Outside> {
     let fields: Vec<&[u8]> = line.split(|&byte| byte == b'\t').collect();
     let texts: Vec<(&[u8], usize)> = match (fields[0], fields.len()) {
-        (b"SetManualOperator", 2) => vec![(fields[1], 6)],
+        (b"SetManualOperator", 2) => return operator(fields[1]),
         (b"SynchronizeNetworkTime", 4) if reads::<u16>(fields[2]) && reads::<u8>(fields[3]) => vec![(fields[1], 64)],
         (b"DownloadToFileSystem", 3) => vec![(fields[1], 64), (fields[2], 32)],
         _ => return None,
@@ -101,6 +102,19 @@ pub fn request(line: &[u8]) -> Option<Outside> {
         return outside("D9", if utf8 { None } else { Some("not utf8") }, "refused 6");
     }
     None
+}
+
+/// Five or six digits (document 02, CR 2). The Rust writes any plmn that fits, and escapes nothing.
+fn operator(plmn: &[u8]) -> Option<Outside> {
+    let text = from_utf8(plmn).ok();
+    if plmn.len() > 6 {
+        return outside("D8", text.map_or(Some("not utf8"), |_| STOPS), "refused 5");
+    }
+    if plmn.len() >= 5 && plmn.iter().all(u8::is_ascii_digit) {
+        return None;
+    }
+    let written = text.map_or("not utf8".to_string(), |text| format!("AT+COPS=1,2,\"{}\"\r", text));
+    outside("D19", Some(&written), "refused 12")
 }
 
 fn reads<T: std::str::FromStr>(text: &[u8]) -> bool {

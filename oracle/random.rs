@@ -435,7 +435,7 @@ fn pad(rng: &mut Rng, line: &mut Vec<u8>) {
 pub fn request(rng: &mut Rng) -> Vec<u8> {
     let mut fields: Vec<Vec<u8>> = match rng.below(20) {
         0 => vec![name(rng)],
-        1..=4 => vec![b"SetManualOperator".to_vec(), text(rng, 6)],
+        1..=4 => vec![b"SetManualOperator".to_vec(), operator(rng)],
         5..=9 => vec![b"SynchronizeNetworkTime".to_vec(), text(rng, 64), count(rng, 16), count(rng, 8)],
         10..=15 => vec![b"DownloadToFileSystem".to_vec(), text(rng, 64), text(rng, 32)],
         16 => vec![b"SetSmsMessageFormat".to_vec(), rng.pick(&["Pdu", "Text", "Pdu", "Text", "text", "0", "1", ""]).as_bytes().to_vec()],
@@ -466,6 +466,19 @@ fn count(rng: &mut Rng, bits: u32) -> Vec<u8> {
         return (rng.next() & ((1 << bits) - 1)).to_string().into_bytes();
     }
     integer(rng, bits).into_bytes()
+}
+
+/// Mostly five or six digits, some of them damaged.
+fn operator(rng: &mut Rng) -> Vec<u8> {
+    if rng.percent(20) {
+        return text(rng, 6);
+    }
+    let length = if rng.percent(80) { rng.between(5, 6) } else { rng.below(9) };
+    let mut plmn = rng.digits(length).into_bytes();
+    if rng.percent(25) {
+        damage(rng, &mut plmn);
+    }
+    plmn
 }
 
 /// Mostly printable and within `most` bytes.

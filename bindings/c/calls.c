@@ -42,9 +42,13 @@ int main(void)
 
     CHECK(sim7000_write_command(SIM7000_SYNCHRONIZE_NETWORK_TIME, 300, 2, BYTES("time"), BYTES(""), out, sizeof out, &size) == 0);
     CHECK(holds(out, size, "AT+CNTP=\"time\",300,2\r"));
+    CHECK(sim7000_write_command(SIM7000_SET_MANUAL_OPERATOR, 300, 2, BYTES("64304\""), BYTES("64304"), out, sizeof out, &size) == SIM7000_NOT_OPERATOR_NUMBER);
+    CHECK(sim7000_write_command(SIM7000_SET_MANUAL_OPERATOR, 300, 2, BYTES("64304"), BYTES("6430"), out, sizeof out, &size) == 0);
+    CHECK(holds(out, size, "AT+COPS=1,2,\"64304\"\r"));
     CHECK(sim7000_write_command(SIM7000_READ_SMS, 300, 2, BYTES(""), BYTES(""), out, 10, &size) == 0);
     CHECK(holds(out, size, "AT+CMGR=2\r"));
 
+    CHECK(sim7000_open(desk.state, SIM7000_SET_MANUAL_OPERATOR, 300, 2, BYTES("6430"), BYTES("64304"), out, sizeof out, &size) == SIM7000_NOT_OPERATOR_NUMBER);
     CHECK(sim7000_open(desk.state, SIM7000_DOWNLOAD_TO_FILE_SYSTEM, 300, 2, BYTES("url"), BYTES("file"), out, sizeof out, &size) == 0);
     CHECK(holds(out, size, "AT+HTTPTOFS=\"url\",\"file\"\r"));
     CHECK(desk.state[1] != 0 && desk.state[2] == 0);
@@ -52,6 +56,7 @@ int main(void)
     sim7000_reset(desk.state);
     CHECK(desk.state[1] == 0);
 
+    CHECK(sim7000_open_echo(desk.state, desk.sent, SIM7000_SET_MANUAL_OPERATOR, 300, 2, BYTES(""), BYTES("64304"), out, sizeof out, &size) == SIM7000_NOT_OPERATOR_NUMBER);
     CHECK(sim7000_open_echo(desk.state, desk.sent, SIM7000_DOWNLOAD_TO_FILE_SYSTEM, 300, 2, BYTES("url"), BYTES("file"), out, sizeof out, &size) == 0);
     CHECK(holds(out, size, "AT+HTTPTOFS=\"url\",\"file\"\r"));
     CHECK(desk.state[1] != 0 && holds(desk.sent, desk.state[2], "AT+HTTPTOFS=\"url\",\"file\"\r"));

@@ -1,6 +1,6 @@
 /* What firmware links of sim7000: `rt staticlib sim7000` writes target/staticlib/libsim7000.a, for x86-64.
  *
- * Every call ends, for all bytes, lengths and states, and relies on no check by its caller. It answers 0, or a refusal number of document 01;
+ * Every call ends, for all bytes, lengths and states, and relies on no check by its caller. It answers 0, or a refusal number of documents 01 and 02;
  * a call that refuses changes no lent byte. What a caller owes is C's own: pointers that are not null, also those of no bytes, to as many
  * bytes as the length beside them says, and no overlap of what one call writes with anything else that it is lent. The contracts and their
  * definitions are in crates/sim7000. */
@@ -17,16 +17,17 @@ extern "C" {
 /* ---- refusals */
 
 enum {
-    SIM7000_LINE_TOO_LONG = 1,     /* more than 256 bytes */
+    SIM7000_LINE_TOO_LONG = 1,       /* more than 256 bytes */
     SIM7000_LINE_NOT_UTF8 = 2,
-    SIM7000_NOT_ACCEPTED = 3,      /* no reader accepts the line; no writer has the number */
-    SIM7000_TEXT_IN_LINE_LONG = 4, /* a sender of more than 20 bytes, a network time of more than 32 */
-    SIM7000_TEXT_TOO_LONG = 5,     /* ntp_server 64, url 64, file_path 32, plmn 6 */
-    SIM7000_TEXT_NOT_PLAIN = 6,    /* a byte outside 32 to 126 */
+    SIM7000_NOT_ACCEPTED = 3,        /* no reader accepts the line; no writer has the number */
+    SIM7000_TEXT_IN_LINE_LONG = 4,   /* a sender of more than 20 bytes, a network time of more than 32 */
+    SIM7000_TEXT_TOO_LONG = 5,       /* ntp_server 64, url 64, file_path 32, plmn 6 */
+    SIM7000_TEXT_NOT_PLAIN = 6,      /* a byte outside 32 to 126 */
     SIM7000_OUT_TOO_SHORT = 7,
     SIM7000_COMMAND_OPEN = 8,
     SIM7000_LINE_UNFINISHED = 9,
-    SIM7000_TEXT_BUFFER_SHORT = 10 /* under 256 bytes */
+    SIM7000_TEXT_BUFFER_SHORT = 10,  /* under 256 bytes */
+    SIM7000_NOT_OPERATOR_NUMBER = 12 /* a plmn that is not five or six digits */
 };
 
 /* ---- lines */
@@ -70,7 +71,7 @@ enum {
     SIM7000_SHOW_ICCID = 1,
     SIM7000_GET_IMEI = 2,
     SIM7000_GET_OPERATOR_INFO = 3,
-    SIM7000_SET_MANUAL_OPERATOR = 4,      /* first: plmn */
+    SIM7000_SET_MANUAL_OPERATOR = 4,      /* first: plmn, five or six digits */
     SIM7000_SET_AUTOMATIC_OPERATOR = 5,
     SIM7000_GET_SYSTEM_INFO = 6,
     SIM7000_SYNCHRONIZE_NETWORK_TIME = 7, /* number: timezone; code: cid; first: ntp_server */
@@ -81,7 +82,7 @@ enum {
     SIM7000_READ_SMS = 12                 /* code: index */
 };
 
-/* 0, with the command in front of out and its size in *size; or 3 for no such request, then 5, 6, 7. */
+/* 0, with the command in front of out and its size in *size; or 3 for no such request, then 5, 12, 6, 7. */
 uint8_t sim7000_write_command(uint8_t request, uint16_t number, uint8_t code, const uint8_t *first, size_t first_len, const uint8_t *second,
                               size_t second_len, uint8_t *out, size_t out_len, uint64_t *size);
 
@@ -109,7 +110,7 @@ enum {
     SIM7000_ECHO = 8 /* the line may end with a CR: modems send the command, CR, CR LF */
 };
 
-/* As sim7000_write_command, and the command's answers are awaited: 0; or 3, 8, 9, 5, 6, 7. */
+/* As sim7000_write_command, and the command's answers are awaited: 0; or 3, 8, 9, 5, 12, 6, 7. */
 uint8_t sim7000_open(uint64_t state[3], uint8_t request, uint16_t number, uint8_t code, const uint8_t *first, size_t first_len,
                      const uint8_t *second, size_t second_len, uint8_t *out, size_t out_len, uint64_t *size);
 

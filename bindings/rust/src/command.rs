@@ -2,7 +2,7 @@ use crate::raw;
 use crate::read::SmsMessageFormat;
 use crate::{accepted, Refusal};
 
-/// A request with its texts, which are bytes 32 to 126.
+/// A request with its texts, which are bytes 32 to 126; a plmn is five or six digits.
 #[derive(Debug, Clone, Copy, PartialEq, Eq)]
 #[allow(missing_docs)]
 pub enum Request<'a> {
@@ -50,7 +50,7 @@ impl<'a> Request<'a> {
         }
     }
 
-    /// Writes the command to the front of `out`: its bytes, or 5, 6 or 7, with `out` as before.
+    /// Writes the command to the front of `out`: its bytes, or 5, 12, 6 or 7, with `out` as before.
     pub fn encode<'o>(&self, out: &'o mut [u8]) -> Result<&'o [u8], Refusal> {
         let p = self.parameters();
         let mut size = 0;

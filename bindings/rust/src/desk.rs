@@ -57,7 +57,7 @@ impl Desk {
         self.state[1] != 0
     }
 
-    /// Writes the command and awaits its answers: its bytes, or 8, 9, 5, 6 or 7, with desk and buffer as before.
+    /// Writes the command and awaits its answers: its bytes, or 8, 9, 5, 12, 6 or 7, with desk and buffer as before.
     pub fn open<'o>(&mut self, request: &Request<'_>, out: &'o mut [u8]) -> Result<&'o [u8], Refusal> {
         let p = request.parameters();
         let mut size = 0;

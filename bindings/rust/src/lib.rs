@@ -15,7 +15,7 @@ pub use command::Request;
 pub use desk::{Desk, Event, Fed};
 pub use read::*;
 
-/// A refusal number of document 01, 1 to 10.
+/// A refusal number of documents 01 and 02: 1 to 10, or 12.
 #[derive(Debug, Clone, Copy, PartialEq, Eq)]
 pub struct Refusal(pub u8);
 
@@ -32,6 +32,7 @@ impl core::fmt::Display for Refusal {
             8 => "a command is open",
             9 => "an unfinished line is held or being dropped",
             10 => "a text buffer under 256 bytes",
+            12 => "an operator number is not five or six digits",
             _ => "unknown",
         };
         write!(f, "refused with {}: {}", self.0, why)

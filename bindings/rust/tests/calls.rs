@@ -42,7 +42,11 @@ fn commands() {
     assert_eq!(Request::SetManualOperator { plmn: b"64304" }.encode(&mut out), Ok(&b"AT+COPS=1,2,\"64304\"\r"[..]));
     assert_eq!(Request::GetImei.encode(&mut out[..6]), Err(Refusal(7)));
     assert_eq!(Request::SetManualOperator { plmn: b"6430411" }.encode(&mut out), Err(Refusal(5)));
-    assert_eq!(Request::SetManualOperator { plmn: b"\n" }.encode(&mut out), Err(Refusal(6)));
+    assert_eq!(Request::SynchronizeNetworkTime { ntp_server: b"\n", timezone: 0, cid: 0 }.encode(&mut out), Err(Refusal(6)));
+    for plmn in [&b""[..], b"6430", b"64304\"", b"6430\0", b"6430\xe9"] {
+        assert_eq!(Request::SetManualOperator { plmn }.encode(&mut out), Err(Refusal(12)));
+    }
+    assert_eq!(Refusal(12).to_string(), "refused with 12: an operator number is not five or six digits");
     assert_eq!(&out, b"AT+COPS=1,2,\"64304\"\r");
     let mut wide = [7u8; 256];
     let size = Request::ReadSms { index: 255 }.encode(&mut wide).unwrap().len();
@@ -206,7 +210,8 @@ fn refusals_of_an_open_in_echo_mode() {
     assert_eq!(desk.open_echo(&Request::GetImei, &mut out), Err(Refusal(9)));
     desk.reset();
     assert_eq!(desk.open_echo(&Request::SetManualOperator { plmn: b"6430411" }, &mut out), Err(Refusal(5)));
-    assert_eq!(desk.open_echo(&Request::SetManualOperator { plmn: b"\n" }, &mut out), Err(Refusal(6)));
+    assert_eq!(desk.open_echo(&Request::SetManualOperator { plmn: b"64304\"" }, &mut out), Err(Refusal(12)));
+    assert_eq!(desk.open_echo(&Request::DownloadToFileSystem { url: b"\n", file_path: b"" }, &mut out), Err(Refusal(6)));
     assert_eq!(desk.open_echo(&Request::GetImei, &mut out[..6]), Err(Refusal(7)));
     assert_eq!(out, [7; 64]);
     assert!(!desk.is_open());
@@ -229,5 +234,6 @@ fn refusals_of_a_desk() {
     desk.reset();
     assert!(!desk.is_open());
     assert_eq!(desk.open(&Request::GetImei, &mut out[..3]), Err(Refusal(7)));
+    assert_eq!(desk.open(&Request::SetManualOperator { plmn: b"64304\"" }, &mut out), Err(Refusal(12)));
     assert!(!desk.is_open());
 }

@@ -120,36 +120,38 @@ fn without_echo() -> Vec<(u64, u64, Vec<u8>)> {
     late(2, (6, 3), 6, (3, 0))
 }
 
-/// One fault after the other is mended; what is refused changes nothing that was lent.
-fn each_refusal(opens: fn(&mut Lent, &Asked) -> u8) {
-    let (long, good) = ([b'\n'; 65], [b'"'; 64]);
-    // open, held, too long, not plain and too short at once
-    let mut all = lent(parts([0xaa; 210], [3, 6, 7]), 209);
-    let mut url: &[u8] = &long;
-    for refusal in [3, 8, 9, 5, 6, 7] {
+/// One fault after the other is mended: no such request, a command open, a line held, each `bad` first text with its refusal, of which the first is 5, a
+/// buffer one byte short. What is refused changes nothing that was lent.
+fn each_refusal(opens: fn(&mut Lent, &Asked) -> u8, request: u8, bad: &[(u8, &[u8])], good: &[u8], size: usize) {
+    let mut all = lent(parts([0xaa; 210], [3, 6, 7]), size - 1);
+    let mut steps = vec![(3, bad[0].1), (8, bad[0].1), (9, bad[0].1)];
+    steps.extend(bad);
+    steps.push((7, good));
+    for (refusal, first) in steps {
         match refusal {
             9 => all.desk.state[1] = 0,
             5 => all.desk.state[0] = 0,
-            6 => url = &long[..64],
-            7 => url = &good,
             _ => {}
         }
         for state in [0, 7, 210, 211, u64::MAX] {
             all.desk.state[2] = state;
             let before = all.clone();
-            assert_eq!(opens(&mut all, &Asked { request: if refusal == 3 { 13 } else { 9 }, first: url, second: &good[..32] }), refusal);
+            assert_eq!(opens(&mut all, &Asked { request: if refusal == 3 { 13 } else { request }, first, second: &[b'"'; 32] }), refusal);
             assert_eq!(all, before);
         }
     }
     all.out.push(7);
-    assert_eq!(opens(&mut all, &Asked { request: 9, first: url, second: &good[..32] }), 0);
-    assert_eq!(all.size, 210);
+    assert_eq!(opens(&mut all, &Asked { request, first: good, second: &[b'"'; 32] }), 0);
+    assert_eq!(all.size, size as u64);
 }
 
 #[test]
 fn a_refused_open_changes_nothing() {
-    each_refusal(open);
-    each_refusal(open_echo);
+    for opens in [open, open_echo] {
+        each_refusal(opens, 9, &[(5, &[b'\n'; 65]), (6, &[b'\n'; 64])], &[b'"'; 64], 210);
+        each_refusal(opens, 4, &[(5, &[0; 7]), (12, &[0; 6]), (12, b"64304\""), (12, b"6430"), (12, b"")], b"64304", 20);
+        each_refusal(opens, 4, &[(5, b"6430410"), (12, b"\xe9\xe9"), (12, b"643 04")], b"643041", 21);
+    }
     for request in 13..=255 {
         let mut all = lent(parts([0xaa; 210], [0; 3]), 64);
         let before = all.clone();

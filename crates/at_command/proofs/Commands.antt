@@ -5,19 +5,19 @@ use mathlib.Core.Bool.{Bool, true, false, cond}
 use mathlib.Core.List.{List, [], _∷_}
 use Prim.Native.Nat.{ℕ, _≤_}
 use native.Mathlib.Omega.{arith}
-use lib.Dec.{ltb, leb}
+use lib.Dec.{eqb, ltb, leb}
 use lib.ListN.{length, length-append}
-use borrow.Author.Tests.{leb-true, ltb-false}
+use borrow.Author.Tests.{eqb-true, leb-true, ltb-false}
 use denote.Laws.{Is}
 use denote.Enum.Declared.{row}
 use denote.Enum.Laws.{val, owed}
 use Rattle.text.specs.Bytes.{bytes, startsWith, within, allWithin}
 use Rattle.text.specs.Reading.{read, refused}
-use Rattle.text.proofs.Ascii.{within-append, within-wider}
+use Rattle.text.proofs.Ascii.{within-append, within-wider, digits-printable}
 use Rattle.text.proofs.Begins.{begins-size, starts-in}
 use Rattle.text.proofs.Tests.{never, and-left, and-right}
 use Rattle.at_command.specs.Piece.{marked, escape, escaped, quoted, decimal}
-use Rattle.at_command.specs.Request.{Asked, getSignalQuality, showIccid, getImei, getOperatorInfo, setManualOperator, setAutomaticOperator, getSystemInfo, synchronizeNetworkTime, execute, downloadToFileSystem, getSmsMessageFormat, setSmsMessageFormat, readSms, Numbers, bodyOf, commandOf, upTo, textsOf, anyLong, anyUnfit, encodeReading}
+use Rattle.at_command.specs.Request.{Asked, getSignalQuality, showIccid, getImei, getOperatorInfo, setManualOperator, setAutomaticOperator, getSystemInfo, synchronizeNetworkTime, execute, downloadToFileSystem, getSmsMessageFormat, setSmsMessageFormat, readSms, Numbers, bodyOf, commandOf, upTo, operatorUpTo, textsOf, anyLong, anyUnfit, refusalOf, encodeReading}
 use Rattle.at_command.specs.says.Request.{asked}
 use Rattle.at_command.specs.declared.cmgf.SmsMessageFormat.the-variants.{Pdu, Text}
 use Rattle.at_command.specs.declared.request.Request.{Request}
@@ -25,7 +25,7 @@ use Rattle.at_command.specs.declared.request.Request.the-variants as R
 use Rattle.at_command.proofs.Decimals.{decimal-most}
 use Rattle.at_command.proofs.DecimalReads.{decimal-digits}
 use Rattle.at_command.proofs.QuotedSizes.{quoted-most}
-use Rattle.at_command.proofs.Writing.{limited, fitted}
+use Rattle.at_command.proofs.Writing.{limited, fitted, Faultless, no-fault}
 use Rattle.at_command.proofs.request.Request.{the-type}
 use Rattle.at_command.proofs.request.Request.Laws.{the-laws}
 
@@ -47,7 +47,7 @@ unfolding quoted
 quoted-printable t e = rw (within-append 32 126 (escaped t) (bytes "\""), escaped-printable t e)
 
 decimal-printable : (n : ℕ) → allWithin 32 126 (decimal n) ≡ true
-decimal-printable n = within-wider 48 57 32 126 (omega arith) (omega arith) (decimal n) (decimal-digits n)
+decimal-printable n = digits-printable (decimal n) (decimal-digits n)
 
 -- ---- the commands
 
@@ -68,34 +68,34 @@ command getImei = fixed getImei refl refl refl
 command getOperatorInfo = fixed getOperatorInfo refl refl refl
 command (setManualOperator plmn) = record {
   begins = refl;
-  size = λ n h. let l = limited 6 plmn [] h .0 in simp length-append (omega arith);
-  printable = λ h. let p = fitted 6 plmn [] h .0 in simp (within-append, p);
+  size = λ n h. let l = limited (operatorUpTo 6 plmn) [] h .0 in simp length-append (omega arith);
+  printable = λ h. let p = fitted (operatorUpTo 6 plmn) [] h .0 in simp (within-append, p);
 }
 command setAutomaticOperator = fixed setAutomaticOperator refl refl refl
 command getSystemInfo = fixed getSystemInfo refl refl refl
 command (synchronizeNetworkTime server timezone cid) = record {
   begins = refl;
   size = λ n h.
-      let l = limited 64 server [] h .0 in
+      let l = limited (upTo 64 server) [] h .0 in
       let q = quoted-most server in
       let t = decimal-most 4 timezone (omega arith) in
       let c = decimal-most 2 cid (omega arith) in
       simp length-append (omega arith);
-  printable = λ h. let p = quoted-printable server (fitted 64 server [] h .0) in simp (within-append, p, decimal-printable);
+  printable = λ h. let p = quoted-printable server (fitted (upTo 64 server) [] h .0) in simp (within-append, p, decimal-printable);
 }
 command execute = fixed execute refl refl refl
 command (downloadToFileSystem url path) = record {
   begins = refl;
   size = λ n h.
-      let l = limited 64 url (upTo 32 path ∷ []) h in
-      let k = limited 32 path [] (l .1) .0 in
+      let l = limited (upTo 64 url) (upTo 32 path ∷ []) h in
+      let k = limited (upTo 32 path) [] (l .1) .0 in
       let q = quoted-most url in
       let r = quoted-most path in
       simp length-append (omega arith);
   printable = λ h.
-      let f = fitted 64 url (upTo 32 path ∷ []) h in
+      let f = fitted (upTo 64 url) (upTo 32 path ∷ []) h in
       let p = quoted-printable url (f .0) in
-      let q = quoted-printable path (fitted 32 path [] (f .1) .0) in
+      let q = quoted-printable path (fitted (upTo 32 path) [] (f .1) .0) in
       simp (within-append, p, q);
 }
 command getSmsMessageFormat = fixed getSmsMessageFormat refl refl refl
@@ -144,19 +144,18 @@ module _ (a : Asked) where
 -- a writer gives the command, and only where the texts are good and the buffer has room
 pub record Gave (a : Asked) (room : ℕ) (w : List ℕ) : Type 0 where
   pub is : w ≡ commandOf a
-  pub short : anyLong (textsOf a) ≡ false
-  pub fit : anyUnfit (textsOf a) ≡ false
+  pub texts : Faultless (textsOf a)
   pub fits : length w ≤ room
 
 pub encode-gives : (a : Asked) (room : ℕ) {w : List ℕ} → encodeReading a room ≡ read w → Gave a room w
-encode-gives a room {w} = go (anyLong (textsOf a)) (anyUnfit (textsOf a)) (ltb room (length (commandOf a))) refl refl (ltb-false room (length (commandOf a)))
+encode-gives a room {w} =
+    go (eqb (refusalOf (textsOf a)) 0) (ltb room (length (commandOf a))) (λ e. no-fault (textsOf a) (eqb-true _ 0 e)) (ltb-false room (length (commandOf a)))
   where
-    go : (l u r : Bool) → anyLong (textsOf a) ≡ l → anyUnfit (textsOf a) ≡ u → (r ≡ false → length (commandOf a) ≤ room)
-        → cond l (refused 5) (cond u (refused 6) (cond r (refused 7) (read (commandOf a)))) ≡ read w → Gave a room w
-    go true u r p q f e = never (cc)
-    go false true r p q f e = never (cc)
-    go false false true p q f e = never (cc)
-    go false false false p q f e = let z : w ≡ commandOf a = cc in record { is = z; short = p; fit = q; fits = rw z (f refl) }
+    go : (t r : Bool) → (t ≡ true → Faultless (textsOf a)) → (r ≡ false → length (commandOf a) ≤ room)
+        → cond t (cond r (refused 7) (read (commandOf a))) (refused (refusalOf (textsOf a))) ≡ read w → Gave a room w
+    go false r g f e = never (cc)
+    go true true g f e = never (cc)
+    go true false g f e = let z : w ≡ commandOf a = cc in record { is = z; texts = g refl; fits = rw z (f refl) }
 
 -- the code's requests have such numbers: the premise is what owning a parameter of type `Request` tells, its part of `c .good` at a function's start
 pub request-numbers : (q : Request) (first second : List ℕ) → Is (row the-type) q (val the-type the-laws q ∷ []) → Numbers (asked q first second)

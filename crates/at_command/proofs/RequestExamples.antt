@@ -1,6 +1,6 @@
 -- Commands as the Rust writes them, and the order of the refusals, each computed.
 use mathlib.Core.Path.{_≡_, refl}
-use mathlib.Core.List.{[], _∷_}
+use mathlib.Core.List.{[], _∷_, _++_}
 use lib.ListN.{length, replicate}
 use Rattle.text.specs.Bytes.{bytes}
 use Rattle.text.specs.Reading.{read, refused}
@@ -9,10 +9,6 @@ use Rattle.at_command.specs.Request.{setManualOperator, synchronizeNetwo
 
 operator : commandOf (setManualOperator (bytes "64304")) ≡ bytes "AT+COPS=1,2,\"64304\"\r"
 operator = refl
-
--- no backslashes here
-operator-quote : commandOf (setManualOperator (bytes "a\"b\\")) ≡ bytes "AT+COPS=1,2,\"a\"b\\\"\r"
-operator-quote = refl
 
 time : commandOf (synchronizeNetworkTime (bytes "pool.ntp.org") 0 255) ≡ bytes "AT+CNTP=\"pool.ntp.org\",0,255\r"
 unfolding quoted digitsUpTo decimal
@@ -51,3 +47,29 @@ no-room = refl
 
 just-room : encodeReading (setManualOperator (bytes "64304")) 20 ≡ read (bytes "AT+COPS=1,2,\"64304\"\r")
 just-room = refl
+
+-- an operator number has five or six digits: else 12, after 5, before 6 and before 7; another text need be none
+six : encodeReading (setManualOperator (bytes "310410")) 21 ≡ read (bytes "AT+COPS=1,2,\"310410\"\r")
+six = refl
+
+clerk : encodeReading (setManualOperator (bytes "64304\"")) 256 ≡ refused 12
+clerk = refl
+
+empty : encodeReading (setManualOperator []) 256 ≡ refused 12
+empty = refl
+
+four : encodeReading (setManualOperator (bytes "6430")) 0 ≡ refused 12
+four = refl
+
+seven : encodeReading (setManualOperator (bytes "6430412")) 256 ≡ refused 5
+seven = refl
+
+nul : encodeReading (setManualOperator (bytes "64304" ++ 0 ∷ [])) 256 ≡ refused 12
+nul = refl
+
+nuls : encodeReading (setManualOperator (replicate 7 0)) 0 ≡ refused 5
+nuls = refl
+
+server : encodeReading (synchronizeNetworkTime (bytes "6430\"") 0 1) 256 ≡ read (bytes "AT+CNTP=\"6430\\\"\",0,1\r")
+unfolding quoted digitsUpTo decimal
+server = refl

@@ -10,6 +10,7 @@ pub mod Gsn
 pub mod Handed
 pub mod Httptofs
 pub mod Kind
+pub mod ManualOperator
 pub mod Piece
 pub mod Request
 pub mod Response

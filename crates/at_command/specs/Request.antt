@@ -1,11 +1,11 @@
 -- The requests: what each sends, which it refuses, what it awaits (the `AtRequest` of each Rust file; TS 27.007 and 27.005).
 use Prim.Native.Nat.{ℕ, _^_, _<_}
 use mathlib.Core.Path.{_≡_}
-use mathlib.Core.Bool.{Bool, false, cond, not, _||_}
+use mathlib.Core.Bool.{Bool, true, false, cond, not, _&&_, _||_}
 use mathlib.Core.List.{List, [], _∷_, _++_}
-use lib.Dec.{ltb}
+use lib.Dec.{eqb, ltb}
 use lib.ListN.{length, drop}
-use Rattle.text.specs.Bytes.{bytes, allWithin}
+use Rattle.text.specs.Bytes.{bytes, within, allWithin, allDigits}
 use Rattle.text.specs.Reading.{Reading, read, refused, mapped}
 use Rattle.at_command.specs.Kind.{Kind, genericOk, iccid, signalQuality, systemInfo, operatorInfo, networkTime, downloadInfo, imei, smsMessageFormat, smsMessage}
 use Rattle.at_command.specs.Piece.{quoted, decimal}
@@ -61,21 +61,29 @@ bodyOf (readSms index) = bytes "AT+CMGR=" ++ decimal index
 abbrev pub commandOf : Asked → List ℕ
 commandOf a = bodyOf a ++ bytes "\r"
 
--- a text of a request, and the most bytes that it may have
+-- a good operator number: five or six ASCII digits (document 02, CR 2)
+abbrev pub operatorNumber : List ℕ → Bool
+operatorNumber t = within 5 6 (length t) && allDigits t
+
+-- a text of a request, the most bytes that it may have, and whether it is to be an operator number
 pub record Text : Type 0 where
   pub most : ℕ
+  pub operator : Bool
   pub text : List ℕ
 
 abbrev pub upTo : ℕ → List ℕ → Text
-upTo n t = record { most = n; text = t }
+upTo n t = record { most = n; operator = false; text = t }
 
--- the texts of a request, with the limits of refusal 5 (document 01, "Refusal numbers")
+abbrev pub operatorUpTo : ℕ → List ℕ → Text
+operatorUpTo n t = record { most = n; operator = true; text = t }
+
+-- the texts of a request, with the limits of refusal 5 (document 01, "Refusal numbers"); a plmn alone is to be an operator number (document 02, CR 2)
 abbrev pub textsOf : Asked → List Text
 textsOf getSignalQuality = []
 textsOf showIccid = []
 textsOf getImei = []
 textsOf getOperatorInfo = []
-textsOf (setManualOperator plmn) = upTo 6 plmn ∷ []
+textsOf (setManualOperator plmn) = operatorUpTo 6 plmn ∷ []
 textsOf setAutomaticOperator = []
 textsOf getSystemInfo = []
 textsOf (synchronizeNetworkTime server timezone cid) = upTo 64 server ∷ []
@@ -90,21 +98,27 @@ abbrev pub anyLong : List Text → Bool
 anyLong [] = false
 anyLong (t ∷ ts) = ltb (t .most) (length (t .text)) || anyLong ts
 
+-- a text that is to be an operator number is none
+abbrev pub anyBadOperator : List Text → Bool
+anyBadOperator [] = false
+anyBadOperator (t ∷ ts) = (t .operator && not (operatorNumber (t .text))) || anyBadOperator ts
+
 -- a text has a byte outside 32 to 126
 abbrev pub anyUnfit : List Text → Bool
 anyUnfit [] = false
 anyUnfit (t ∷ ts) = not (allWithin 32 126 (t .text)) || anyUnfit ts
 
+-- the refusal of texts, 0 where they are good: 5, 12 and 6, each over all texts before the next (document 01, "Refusal numbers"; document 02, CR 2)
+abbrev pub refusalOf : List Text → ℕ
+refusalOf ts = cond (anyLong ts) 5 (cond (anyBadOperator ts) 12 (cond (anyUnfit ts) 6 0))
+
 -- a command for a buffer with room for so many bytes
 abbrev pub fitting : List ℕ → ℕ → Reading (List ℕ)
 fitting command room = cond (ltb room (length command)) (refused 7) (read command)
 
--- the command that is written, or the refusal: 5, 6 and 7, each over all texts before the next
+-- the command that is written, or the refusal: that of its texts, then 7
 abbrev pub encodeReading : Asked → ℕ → Reading (List ℕ)
-encodeReading a room =
-    cond (anyLong (textsOf a)) (refused 5)
-    (cond (anyUnfit (textsOf a)) (refused 6)
-    (fitting (commandOf a) room))
+encodeReading a room = cond (eqb (refusalOf (textsOf a)) 0) (fitting (commandOf a) room) (refused (refusalOf (textsOf a)))
 
 -- the output buffer afterwards: the command fills its front, and a refusal leaves it as it was
 abbrev pub written : Reading (List ℕ) → List ℕ → List ℕ

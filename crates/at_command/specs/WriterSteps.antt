@@ -1,15 +1,9 @@
--- What the private functions of a writer do: the check of its texts, and pieces that are laid one behind the other.
+-- How the private functions of a writer lay pieces, one behind the other.
 use Prim.Native.Nat.{ℕ, zero, suc, _+_, _/_, _%_, _≤_}
 use mathlib.Core.Path.{_≡_}
-use mathlib.Core.Bool.{cond}
 use mathlib.Core.List.{List, [], _∷_, _++_}
 use lib.ListN.{length, take, drop}
 use Rattle.at_command.specs.Piece.{decimal}
-use Rattle.at_command.specs.Request.{Text, anyLong, anyUnfit}
-
--- the refusal of texts, 0 where they are good
-unfoldable pub refusalOf : List Text → ℕ
-refusalOf ts = cond (anyLong ts) 5 (cond (anyUnfit ts) 6 0)
 
 -- a piece laid at an index of a buffer that has room for it: where it ends, and what the buffer then holds
 pub record Lays (piece : List ℕ) (at : ℕ) (before : List ℕ) (end : ℕ) (after : List ℕ) : Type 0 where

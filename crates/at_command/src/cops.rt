@@ -21,7 +21,7 @@ ghost use Rattle.text.specs.says.Handed.{atSays, TextKeeps};
 ghost use Rattle.at_command.specs.Cops.{operatorModes, operatorFormats, FieldOr, nameOf, copsFields, copsText};
 ghost use Rattle.at_command.specs.Handed.{nameIn, nameHanded};
 ghost use Rattle.at_command.specs.WriterSteps.{Lays};
-ghost use Rattle.at_command.specs.Request.{commandOf, getOperatorInfo, setManualOperator, setAutomaticOperator};
+ghost use Rattle.at_command.specs.Request.{textsOf, refusalOf, commandOf, getOperatorInfo, setManualOperator, setAutomaticOperator};
 ghost use Rattle.at_command.specs.says.Cops.{says, modeSays, formatSays, nameSays, OperatorInfoKeeps};
 ghost use Rattle.at_command.specs.says.Request.{EncodeKeeps};
 
@@ -220,7 +220,7 @@ impl SetManualOperator {
     pub fn encode(self, plmn: &[u8], out: &mut [u8]) -> Encoded
         ensures { λ r. ⌜ EncodeKeeps (setManualOperator (now (plmn .entry))) (now (out .entry)) r (now (out .exit)) ⌝ }
     {
-        let refusal = write::refusal(plmn, 6, b"", 0);
+        let refusal = number_refusal(plmn);
         if 0 < refusal {
             return Encoded::Refused(refusal);
         }
@@ -229,6 +229,22 @@ impl SetManualOperator {
         }
         Encoded::Size(lay_manual(plmn, out))
     }
+}
+
+// The refusal of an operator number: 5, then 12; 0 for five or six digits. 6 is not asked for, since digits lie within 32 to 126.
+fn number_refusal(plmn: &[u8]) -> u8
+    ensures { λ r. ⌜ r ≡ refusalOf (textsOf (setManualOperator (now (plmn .entry)))) ⌝ }
+{
+    if 6 < plmn.len() {
+        return 5;
+    }
+    if plmn.len() < 5 {
+        return 12;
+    }
+    if !bytes::all_digits(plmn) {
+        return 12;
+    }
+    0
 }
 
 // Lays the command where there is room for it.

@@ -13,12 +13,11 @@ use crate::cpsi::GetSystemInfo;
 use crate::csq::GetSignalQuality;
 use crate::gsn::GetImei;
 use crate::httptofs::DownloadToFileSystem;
-ghost use mathlib.Core.Path.{_≡_};
 ghost use Rattle.text.specs.Gives.{Gives};
 ghost use Rattle.at_command.specs.Kind.{placeOf};
 ghost use Rattle.at_command.specs.says.Request.{kindSays, asked, EncodeKeeps, AwaitsKeeps};
 
-// The size of the command that was written, or the refusal: 5, 6 or 7.
+// The size of the command that was written, or the refusal: 5, 12, 6 or 7.
 pub enum Encoded {
     Size(usize),
     Refused(u8),

@@ -6,9 +6,9 @@ ghost use mathlib.Core.Path.{_≡_};
 ghost use mathlib.Core.List.{[], _∷_};
 ghost use Prim.Native.Nat.{_+_, _%_, _≤_, _<_};
 ghost use lib.ListN.{length};
-ghost use Rattle.at_command.specs.WriterSteps.{Lays, lastDigits, HasDigits, refusalOf};
+ghost use Rattle.at_command.specs.WriterSteps.{Lays, lastDigits, HasDigits};
 ghost use Rattle.at_command.specs.Piece.{marked, escaped, quoted, decimal};
-ghost use Rattle.at_command.specs.Request.{upTo, fitting, LeavesWritten};
+ghost use Rattle.at_command.specs.Request.{upTo, refusalOf, fitting, LeavesWritten};
 ghost use Rattle.at_command.specs.says.Request.{encodedSays};
 
 // The refusal of two texts of a request, each with the most bytes that it may have: 5, then 6; 0 where both are good.

@@ -7,6 +7,7 @@ pub mod Echoing
 pub mod Feeding
 pub mod Opening
 pub mod Commands
+pub mod ManualOperator
 pub mod Slips
 pub mod Demand
 pub mod Accepted

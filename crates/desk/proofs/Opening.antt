@@ -135,7 +135,7 @@ module _ (s : State) (a : Asked) (ks : List Kind) (out : List ℕ) {o : Opened} 
       let all : o ≡ openedWith s (awaiting ks) (read (commandOf a)) out = is ∙ w .each (awaiting ks) ∙ ap (λ (x : List ℕ). openedWith s (awaiting ks) (read x) out) (g .is) in
       let count : n ≡ length (commandOf a) = read-same (sym size ∙ ap (λ (x : Opened). x .answer) all) in
       let bytes : piece ≡ commandOf a = front ∙ from-start (o .out) n ∙ rw (all, count) (take-append-seam (commandOf a) (drop (length (commandOf a)) out)) in
-      let few = command-size a numbers (g .short) in
+      let few = command-size a numbers (g .texts .short) in
       let kept : sent′ ≡ commandOf a ++ drop (length (commandOf a)) (s .command .sent) =
       whole-holds piece 0 (s .command .sent) _ sent′ (let z = ap length bytes in omega arith) laid
       ∙ ap (λ (x : List ℕ). x ++ drop (0 + length x) (s .command .sent)) bytes

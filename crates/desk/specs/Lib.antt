@@ -8,6 +8,7 @@ pub mod Desk
 pub mod Search
 pub mod Says
 pub mod Keeps
+pub mod ManualOperator
 pub mod Slips
 pub mod Demand
 pub mod Calls

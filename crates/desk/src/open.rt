@@ -9,7 +9,7 @@ use text::part;
 ghost use Rattle.desk.specs.Keeps.{OpenKeeps, OpenOnKeeps, OpenEchoOnKeeps};
 ghost use Rattle.desk.specs.Rules.{plainMode, echoMode};
 
-// The size of the command that was written, or the refusal: 8, 9, 5, 6, 7.
+// The size of the command that was written, or the refusal: 8, 9, 5, 12, 6, 7.
 pub struct Opened {
     pub desk: Desk,
     pub answer: Encoded,

@@ -5,10 +5,11 @@ use mathlib.Core.Bool.{Bool, true, false, cond}
 use mathlib.Core.List.{List}
 use mathlib.Core.Option.{some}
 use native.Mathlib.Omega.{arith}
-use lib.Dec.{ltb}
+use lib.Dec.{eqb, ltb}
 use lib.ListN.{length, getD}
+use borrow.Author.Tests.{eqb-false}
 use Rattle.text.specs.Reading.{Reading, read, refused}
-use Rattle.at_command.specs.Request.{Asked, textsOf, commandOf, anyLong, anyUnfit, encodeReading}
+use Rattle.at_command.specs.Request.{Asked, textsOf, refusalOf, commandOf, fitting, encodeReading}
 use Rattle.desk.specs.Machine.{feed}
 use Rattle.desk.specs.Judge as J
 use Rattle.desk.specs.Judge.{Command, isOpen}
@@ -95,24 +96,25 @@ module _ (line state sent chunk text told : List ℕ) where
 -- ---- an open
 
 -- no refusal is 0
-abbrev Numbered : {A : Type 0} → Reading A → Type 0
+abbrev pub Numbered : {A : Type 0} → Reading A → Type 0
 Numbered (read a) = Unit {0}
 Numbered (refused k) = k ≡ 0 → ⊥
 
-numbered-cond : {A : Type 0} (t : Bool) (r q : Reading A) → Numbered r → Numbered q → Numbered (cond t r q)
+numbered-cond : {A : Type 0} (t : Bool) (r q : Reading A) → Numbered r → (t ≡ false → Numbered q) → Numbered (cond t r q)
 numbered-cond true r q p h = p
-numbered-cond false r q p h = h
+numbered-cond false r q p h = h refl
 
-encode-numbered : (a : Asked) (room : ℕ) → Numbered (encodeReading a room)
+pub encode-numbered : (a : Asked) (room : ℕ) → Numbered (encodeReading a room)
 encode-numbered a room =
-    numbered-cond (anyLong (textsOf a)) (refused 5) _ (λ e. omega arith)
-    (numbered-cond (anyUnfit (textsOf a)) (refused 6) _ (λ e. omega arith) (numbered-cond (ltb room (length (commandOf a))) (refused 7) (read (commandOf a)) (λ e. omega arith) tt))
+    numbered-cond (eqb (refusalOf (textsOf a)) 0) (fitting (commandOf a) room) _
+    (numbered-cond (ltb room (length (commandOf a))) (refused 7) (read (commandOf a)) (λ e. omega arith) (λ e. tt))
+    (eqb-false _ 0)
 
 open-numbered : (s : State) (c : Command) (w : Reading (List ℕ)) (out : List ℕ) → Numbered w → Numbered (opened s c w out .answer)
 unfolding opened
 open-numbered s c w out p =
     with-numbered (allowed s w)
-    (numbered-cond (isOpen (commandKept (s .command))) (refused 8) _ (λ e. omega arith) (numbered-cond (isClear (viewOf (s .wire))) w (refused 9) p (λ e. omega arith)))
+    (numbered-cond (isOpen (commandKept (s .command))) (refused 8) _ (λ e. omega arith) (λ e. numbered-cond (isClear (viewOf (s .wire))) w (refused 9) p (λ e. λ z. omega arith)))
   where
     with-numbered : (v : Reading (List ℕ)) → Numbered v → Numbered (openedWith s c v out .answer)
     with-numbered (read command) q = tt
@@ -120,20 +122,21 @@ open-numbered s c w out p =
 
 -- in both modes
 module _ (mode : Mode) (line state sent : List ℕ) (request number code : ℕ) (first second out : List ℕ) (size : ℕ) (a : Asked) (asks : askedBy request number code first second ≡ some a) where
-  abbrev Begun : Opened
+  abbrev pub Begun : Opened
   Begun = openedOn mode a line state sent out
 
-  -- what an open that is not refused leaves is read back as the desk that it opened
-  record ReadBack (state′ sent′ : List ℕ) : Type 0 where
-    pub accepted : accepts (Begun .answer) ≡ true
+  -- what an open that is not refused leaves: the size and the command that the desk's own gives, and parts that are read back as the desk that it opened
+  pub record ReadBack (state′ sent′ out′ : List ℕ) (size′ : ℕ) : Type 0 where
+    pub answers : Begun .answer ≡ read size′
+    pub outs : out′ ≡ Begun .out
     pub back : deskIn line state′ sent′ ≡ Begun .state
 
-  read-back : (r : ℕ) (state′ sent′ out′ : List ℕ) (size′ : ℕ) → openLeft r state′ sent′ out′ size′ ≡ opens mode (askedBy request number code first second) line state sent out size → r ≡ 0
-      → ReadBack state′ sent′
+  pub read-back : (r : ℕ) (state′ sent′ out′ : List ℕ) (size′ : ℕ) → openLeft r state′ sent′ out′ size′ ≡ opens mode (askedBy request number code first second) line state sent out size → r ≡ 0
+      → ReadBack state′ sent′ out′ size′
   unfolding opens
   read-back r state′ sent′ out′ size′ kept fine = go (Begun .answer) refl
     where
-      go : (x : Reading ℕ) → Begun .answer ≡ x → ReadBack state′ sent′
+      go : (x : Reading ℕ) → Begun .answer ≡ x → ReadBack state′ sent′ out′ size′
       go (refused k) e =
           let named = open-numbered (deskIn line state sent) (commandFor mode a) (encodeReading a (length out)) out (encode-numbered a (length out)) in
           let is : r ≡ k = ap (λ (x : OpenLeft). x .answer) (rw (asks, e) at kept) in
@@ -145,7 +148,8 @@ module _ (mode : Mode) (line state sent : List ℕ) (request number code : ℕ) 
           let s = deskIn line state sent in
           let made = open-accepted s out (commandFor mode a) (encodeReading a (length out)) (ap accepts e) in
           record {
-            accepted = ap accepts e;
+            answers = e ∙ ap (λ (x : OpenLeft). read (x .size)) (sym left);
+            outs = ap (λ (x : OpenLeft). x .out) left;
             back = rw (states, sents, made .each (commandFor mode a)) (state-back (record { wire = s .wire; command = keep (commandFor mode a) (s .command) }) (command-few mode a));
           }
 
@@ -153,7 +157,7 @@ module _ (mode : Mode) (line state sent : List ℕ) (request number code : ℕ) 
       → (viewed (deskIn line state′ sent′) ≡ fresh (commandFor mode a)) × Apart (commandFor mode a .echo)
   exported-open r state′ sent′ out′ size′ kept fine =
       let o = read-back r state′ sent′ out′ size′ kept fine in
-      let f = opened-for mode a (deskIn line state sent) out (encodeReading a (length out)) Begun refl (o .accepted) in
+      let f = opened-for mode a (deskIn line state sent) out (encodeReading a (length out)) Begun refl (ap accepts (o .answers)) in
       (ap viewed (o .back) ∙ f .0, f .1)
 
 -- ---- demand 3

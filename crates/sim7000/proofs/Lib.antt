@@ -6,4 +6,5 @@ pub mod Asking
 pub mod One
 pub mod Desks
 pub mod Demand
+pub mod ManualOperator
 pub mod Lives

@@ -2,5 +2,6 @@ pub mod Reader
 pub mod Values
 pub mod Parts
 pub mod Command
+pub mod ManualOperator
 pub mod says
 pub mod Calls

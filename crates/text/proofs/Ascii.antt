@@ -1,13 +1,13 @@
--- Bytes in a range: those of two texts together, and in a wider range. A line of ASCII bytes is UTF-8, and passes the check if it is not too long. Assumes nothing.
+-- Bytes in a range: those of two texts together, in a wider range, and none below it; digits are printable. A line of ASCII bytes is UTF-8, and passes the check if it is not too long. Assumes nothing.
 use mathlib.Core.Path.{_≡_, refl, ap, sym, _∙_}
 use mathlib.Core.Bool.{Bool, true, _&&_, and-assoc}
 use mathlib.Core.List.{List, [], _∷_, _++_}
-use Prim.Native.Nat.{ℕ, _≤_}
+use Prim.Native.Nat.{ℕ, _≤_, _<_}
 use native.Mathlib.Omega.{arith}
 use lib.Dec.{leb}
 use lib.ListN.{length}
-use borrow.Author.Tests.{leb-true, le-leb}
-use Rattle.text.specs.Bytes.{within, allWithin}
+use borrow.Author.Tests.{leb-true, le-leb, ne-eqb}
+use Rattle.text.specs.Bytes.{within, countOf, allWithin, allDigits}
 use Rattle.text.specs.Line.{lineCheck}
 use Rattle.text.specs.Utf8.{behind, utf8}
 use Rattle.text.proofs.LineLaws.{check-good}
@@ -26,6 +26,15 @@ module _ (lo hi : ℕ) where
       let low = leb-true lo x (and-left (leb lo x) _ w) in
       let high = leb-true x hi (and-right (leb lo x) _ w) in
       rw (le-leb a x (omega arith), le-leb x b (omega arith)) (within-wider a b l h s (and-right (within lo hi x) _ e))
+
+  pub within-free : (b : ℕ) → b < lo → (s : List ℕ) → allWithin lo hi s ≡ true → countOf b s ≡ 0
+  within-free b l [] e = refl
+  within-free b l (x ∷ s) e =
+      let low = leb-true lo x (and-left (leb lo x) _ (and-left (within lo hi x) _ e)) in
+      rw (ne-eqb x b (λ z. omega arith), within-free b l s (and-right (within lo hi x) _ e))
+
+pub digits-printable : (s : List ℕ) → allDigits s ≡ true → allWithin 32 126 s ≡ true
+digits-printable = within-wider 48 57 32 126 (omega arith) (omega arith)
 
 pub ascii-utf8 : (s : List ℕ) → allWithin 0 0x7F s ≡ true → utf8 s ≡ true
 unfolding utf8 behind

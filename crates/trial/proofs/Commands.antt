@@ -68,8 +68,8 @@ at-front l = begins-with (λ (s : List ℕ). startsWith (bytes "A") s ≡ true) 
 pub commands-unread : CommandsUnread
 commands-unread a room w n e =
     let g = encode-gives a room e in
-    let c = command-size a n (g .short) in
-    let b = body-size a n (g .short) in (
-      rw (g .is) (none-reads (commandOf a) (at-front (commandOf a) (command-begins a)) (omega arith) (command-ascii a (g .fit))),
-      none-reads (bodyOf a) (at-front (bodyOf a) (body-begins a)) (omega arith) (body-ascii a (g .fit)),
+    let c = command-size a n (g .texts .short) in
+    let b = body-size a n (g .texts .short) in (
+      rw (g .is) (none-reads (commandOf a) (at-front (commandOf a) (command-begins a)) (omega arith) (command-ascii a (g .texts .fit))),
+      none-reads (bodyOf a) (at-front (bodyOf a) (body-begins a)) (omega arith) (body-ascii a (g .texts .fit)),
     )

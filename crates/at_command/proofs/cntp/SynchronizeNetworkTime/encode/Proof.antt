@@ -3,25 +3,21 @@ use native.Mathlib.Omega.{arith}
 use lib.ListN.{length-append}
 use denote.Ref.{now}
 use borrow.Author.Needs.{needs}
-use Rattle.at_command.specs.WriterSteps.{refusalOf}
 use Rattle.at_command.specs.Request.{synchronizeNetworkTime}
 use Rattle.at_command.proofs.Writing.{refuses, refuses-7, writes, first-limited}
 use Rattle.at_command.proofs.cntp.SynchronizeNetworkTime.encode.Statement.{statement}
 use Rattle.at_command.proofs.cntp.SynchronizeNetworkTime.encode.Tie as tie
 
 returns : tie.Need-returns
-unfolding refusalOf
 returns c = let a = c .before .before .before .before .before .args in
     refuses (synchronizeNetworkTime (now (a .ntp-server)) (a .self .timezone) (a .self .cid)) _ _ (c .before .refusal .ensures) (c .if1 .taken)
 
 returns-2 : tie.Need-returns-2
-unfolding refusalOf
 returns-2 c = let s = c .before .before .before .before .before in
     let a = s .before .before .before .before .before .args in
     refuses-7 (synchronizeNetworkTime (now (a .ntp-server)) (a .self .timezone) (a .self .cid)) _ _ (s .before .refusal .ensures) (s .if1 .left) _ (simp length-append (omega arith)) (c .if2 .taken)
 
 returns-3 : tie.Need-returns-3
-unfolding refusalOf
 returns-3 c = let s = c .before .before .before .before .before .before .before .before .before in
     let a = s .before .before .before .before .before .args in
     writes (synchronizeNetworkTime (now (a .ntp-server)) (a .self .timezone) (a .self .cid)) _ _ (s .before .refusal .ensures) (s .if1 .left) _ _ (c .before .before .lay-sync .ensures)

@@ -22,5 +22,11 @@ returns-3 c = let s = c .before .before .before .before .before .before .before 
     let a = s .before .before .before .before .before .args in
     writes (downloadToFileSystem (now (a .url)) (now (a .file-path))) _ _ (s .before .refusal .ensures) (s .if1 .left) _ _ (c .before .before .lay-download .ensures)
 
+second-size : tie.Need-quoted-size-requires-2
+second-size c κs = let s = c .before in
+    let a = s .before .before .before .before .before .args in
+    let l = second-limited (now (a .url)) (now (a .file-path)) 64 32 _ (s .before .refusal .ensures) (s .if1 .left) in
+    omega arith
+
 pub encode-spec : {M : Type 1} → statement M
-encode-spec = tie.close (tie.spec (λ c κs. search needs) returns (λ c κs. search first-limited) (λ c. search needs) (λ c κs. omega (arith, second-limited _ _ _ _ _ (c .before .before .refusal .ensures) (c .before .if1 .left))) (λ c. search needs) returns-2 (λ c κs. search needs) (λ c. search needs) returns-3)
+encode-spec = tie.close (tie.spec (λ c κs. search needs) returns (λ c κs. search first-limited) (λ c. search needs) second-size (λ c. search needs) returns-2 (λ c κs. search needs) (λ c. search needs) returns-3)
