@@ -23,6 +23,7 @@ use Rattle.desk.specs.Judge.{Command, awaiting, echoing, isOpen}
 use Rattle.desk.specs.Desk.{Tray, commandKept, keep, State, viewOf, isClear, Opened, allowed, openedWith, opened}
 use Rattle.desk.specs.Demand.{accepts}
 use Rattle.text.proofs.Tests.{both, never}
+use Rattle.text.proofs.Yields.{Yields, yields-cond}
 
 -- ---- whether the desk is clear
 
@@ -119,6 +120,16 @@ module _ (s : State) (out : List ℕ) where
       (λ (f : isClear (viewOf (s .wire)) ≡ false). no-answer a (rw (e, f)))
       (both (isClear (viewOf (s .wire)))))
       (both (isOpen (commandKept (s .command))))
+
+-- what holds of 8, of 9 and of the writer's refusals holds of an open's
+pub open-yields : (R : ℕ → Type 0) (s : State) (c : Command) (w : Reading (List ℕ)) (out : List ℕ) → R 8 → R 9 → Yields (λ (x : List ℕ). Unit {0}) R w → Yields (λ (n : ℕ). Unit {0}) R (opened s c w out .answer)
+unfolding opened
+open-yields R s c w out p q h =
+    go (allowed s w) (yields-cond _ R (isOpen (commandKept (s .command))) (refused 8) _ (λ e. p) (λ e. yields-cond _ R (isClear (viewOf (s .wire))) w (refused 9) (λ f. h) (λ f. q)))
+  where
+    go : (v : Reading (List ℕ)) → Yields (λ (x : List ℕ). Unit {0}) R v → Yields (λ (n : ℕ). Unit {0}) R (openedWith s c v out .answer)
+    go (read command) y = tt
+    go (refused k) y = y
 
 read-same : {m n : ℕ} → read m ≡ read n → m ≡ n
 read-same e = cc

@@ -1,7 +1,6 @@
 -- Demand 3 holds of sessions with exported calls, in both modes: an exported call that keeps its contract is the desk's own on the desk that the lent parts are.
 use Prim.Native.Nat.{ℕ}
 use mathlib.Core.Path.{_≡_, refl, sym, ap, _∙_}
-use mathlib.Core.Bool.{Bool, true, false, cond}
 use mathlib.Core.List.{List}
 use mathlib.Core.Option.{some}
 use native.Mathlib.Omega.{arith}
@@ -9,15 +8,16 @@ use lib.Dec.{eqb, ltb}
 use lib.ListN.{length, getD}
 use borrow.Author.Tests.{eqb-false}
 use Rattle.text.specs.Reading.{Reading, read, refused}
+use Rattle.text.proofs.Yields.{Yields, yields-cond}
 use Rattle.at_command.specs.Request.{Asked, textsOf, refusalOf, commandOf, fitting, encodeReading}
 use Rattle.desk.specs.Machine.{feed}
 use Rattle.desk.specs.Judge as J
-use Rattle.desk.specs.Judge.{Command, isOpen}
+use Rattle.desk.specs.Judge.{Command}
 use Rattle.desk.specs.Rules.{fresh, Mode, plainMode, echoMode, commandFor}
-use Rattle.desk.specs.Desk.{commandKept, keep, State, viewed, viewOf, isClear, desk, Heard, quiet, event, Fed, fed, Opened, allowed, openedWith, opened}
+use Rattle.desk.specs.Desk.{keep, State, viewed, desk, Heard, quiet, event, Fed, fed, Opened}
 use Rattle.desk.specs.Demand.{Turn, accepts, takenBy, seenBy, Demand3, Demand3-slipped, Demand3-early}
 use Rattle.desk.proofs.Commands.{Apart, command-few}
-use Rattle.desk.proofs.Opening.{open-accepted}
+use Rattle.desk.proofs.Opening.{open-accepted, open-yields}
 use Rattle.desk.proofs.Unchanged.{fed-stays}
 use Rattle.desk.proofs.Demand.{Sound, desk-sound, kept-feed, opened-for, same-bytes, with-slips, with-early}
 use Rattle.sim7000.specs.Parts.{deskIn, numbersOf, toldOf, FeedLeft, feeds, ExportFeedKeeps}
@@ -96,29 +96,14 @@ module _ (line state sent chunk text told : List ℕ) where
 -- ---- an open
 
 -- no refusal is 0
-abbrev pub Numbered : {A : Type 0} → Reading A → Type 0
-Numbered (read a) = Unit {0}
-Numbered (refused k) = k ≡ 0 → ⊥
+abbrev pub NotZero : ℕ → Type 0
+NotZero k = k ≡ 0 → ⊥
 
-numbered-cond : {A : Type 0} (t : Bool) (r q : Reading A) → Numbered r → (t ≡ false → Numbered q) → Numbered (cond t r q)
-numbered-cond true r q p h = p
-numbered-cond false r q p h = h refl
-
-pub encode-numbered : (a : Asked) (room : ℕ) → Numbered (encodeReading a room)
+pub encode-numbered : (a : Asked) (room : ℕ) → Yields (λ (w : List ℕ). Unit {0}) NotZero (encodeReading a room)
 encode-numbered a room =
-    numbered-cond (eqb (refusalOf (textsOf a)) 0) (fitting (commandOf a) room) _
-    (numbered-cond (ltb room (length (commandOf a))) (refused 7) (read (commandOf a)) (λ e. omega arith) (λ e. tt))
+    yields-cond _ NotZero (eqb (refusalOf (textsOf a)) 0) (fitting (commandOf a) room) _
+    (λ e. yields-cond _ NotZero (ltb room (length (commandOf a))) (refused 7) (read (commandOf a)) (λ f z. omega arith) (λ f. tt))
     (eqb-false _ 0)
-
-open-numbered : (s : State) (c : Command) (w : Reading (List ℕ)) (out : List ℕ) → Numbered w → Numbered (opened s c w out .answer)
-unfolding opened
-open-numbered s c w out p =
-    with-numbered (allowed s w)
-    (numbered-cond (isOpen (commandKept (s .command))) (refused 8) _ (λ e. omega arith) (λ e. numbered-cond (isClear (viewOf (s .wire))) w (refused 9) p (λ e. λ z. omega arith)))
-  where
-    with-numbered : (v : Reading (List ℕ)) → Numbered v → Numbered (openedWith s c v out .answer)
-    with-numbered (read command) q = tt
-    with-numbered (refused k) q = q
 
 -- in both modes
 module _ (mode : Mode) (line state sent : List ℕ) (request number code : ℕ) (first second out : List ℕ) (size : ℕ) (a : Asked) (asks : askedBy request number code first second ≡ some a) where
@@ -138,7 +123,7 @@ module _ (mode : Mode) (line state sent : List ℕ) (request number code : ℕ) 
     where
       go : (x : Reading ℕ) → Begun .answer ≡ x → ReadBack state′ sent′ out′ size′
       go (refused k) e =
-          let named = open-numbered (deskIn line state sent) (commandFor mode a) (encodeReading a (length out)) out (encode-numbered a (length out)) in
+          let named = open-yields NotZero (deskIn line state sent) (commandFor mode a) (encodeReading a (length out)) out (λ z. omega arith) (λ z. omega arith) (encode-numbered a (length out)) in
           let is : r ≡ k = ap (λ (x : OpenLeft). x .answer) (rw (asks, e) at kept) in
           absurd ((rw e at named) (sym is ∙ fine))
       go (read n) e =

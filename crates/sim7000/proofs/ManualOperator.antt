@@ -22,14 +22,14 @@ module _ (number code : ℕ) (first second out out′ : List ℕ) (size size′ 
       go : (w : Reading (List ℕ)) → encodeReading (setManualOperator first) (length out) ≡ w → writeLeft 0 out′ size′ ≡ writeLeaves w out size → OperatorCommand first (take size′ out′)
       go (refused k) e is = let n = encode-numbered (setManualOperator first) (length out) in absurd ((rw e at n) (sym (ap (λ (x : WriteLeft). x .answer) is)))
       go (read c) e is =
-          operators-written first out out′ size′ (rw e (record { says = ap (λ (x : WriteLeft). read (x .size)) is; holds = ap (λ (x : WriteLeft). x .out) is }))
+          operators-written first out (read size′) out′ (rw e (record { says = ap (λ (x : WriteLeft). read (x .size)) is; holds = ap (λ (x : WriteLeft). x .out) is }))
 
   operator-begun : (mode : Mode) (line state sent state′ sent′ : List ℕ) → openLeft 0 state′ sent′ out′ size′ ≡ opens mode (askedBy 4 number code first second) line state sent out size
       → OperatorCommand first (take size′ out′)
   unfolding askedBy
   operator-begun mode line state sent state′ sent′ kept =
       let o = read-back mode line state sent 4 number code first second out size (setManualOperator first) refl 0 state′ sent′ out′ size′ kept refl in
-      rw (o .outs) (operator-opened (deskIn line state sent) (commandFor mode (setManualOperator first)) out first refl (o .answers))
+      rw (o .outs) (rw (o .answers) at (operator-opened (deskIn line state sent) (commandFor mode (setManualOperator first)) out first refl))
 
   pub operators-exported : OperatorsExported number code first second out out′ size size′
   operators-exported =

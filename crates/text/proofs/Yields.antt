@@ -30,10 +30,13 @@ module _ {A : Type 0} (Q : A → Type 0) (R : ℕ → Type 0) where
   pub yields-read : (x : Reading A) (a : A) → Yields Q R x → x ≡ read a → Q a
   yields-read x a h e = subst (Yields Q R) e h
 
+  pub yields-cond : (t : Bool) (r q : Reading A) → (t ≡ true → Yields Q R r) → (t ≡ false → Yields Q R q) → Yields Q R (cond t r q)
+  yields-cond true r q f g = f refl
+  yields-cond false r q f g = g refl
+
   -- a test, with a refusal where it fails
   tested : (t : Bool) (r : Reading A) (k : ℕ) → R k → (t ≡ true → Yields Q R r) → Yields Q R (cond t r (refused k))
-  tested true r k n h = h refl
-  tested false r k n h = n
+  tested t r k n h = yields-cond t r (refused k) h (λ e. n)
 
   pub yields-only : (t : Bool) (r : Reading A) → R 3 → (t ≡ true → Yields Q R r) → Yields Q R (only t r)
   unfolding only
@@ -49,8 +52,7 @@ module _ {A : Type 0} (Q : A → Type 0) (R : ℕ → Type 0) where
 
   pub yields-either : (t : Bool) (r q : Reading A) → (t ≡ true → Yields Q R r) → (t ≡ false → Yields Q R q) → Yields Q R (either t r q)
   unfolding either
-  yields-either true r q f g = f refl
-  yields-either false r q f g = g refl
+  yields-either = yields-cond
 
   pub yields-need : {B : Type 0} (o : Option B) (f : B → Reading A) → R 3 → ((b : B) → o ≡ some b → Yields Q R (f b)) → Yields Q R (need o f)
   unfolding need
