@@ -1,4 +1,4 @@
-//! The fixed list of lines and requests: every reader and writer, every value of every enum, every edge that document 01 draws.
+//! The fixed list of lines and requests: every reader and writer, every value of every enum, every edge that documents 01 and 02 draw.
 
 use crate::texts::*;
 
@@ -22,6 +22,7 @@ fn gnss(changes: &[(usize, &str)]) -> String {
     format!("+UGNSINF: {}", fields.join(","))
 }
 
+/// The digits with the check digit that the Rust wants behind them: for fourteen, that of TS 23.003, annex B.
 pub fn imei(digits: &str) -> String {
     let mut sum = 0;
     for (place, digit) in digits.bytes().enumerate() {
@@ -149,10 +150,27 @@ fn iccid(out: &mut Vec<String>) {
     }
 }
 
+/// Fifteen digits and sixteen (document 02, CR 3), their neighbours 13, 14, 17 and 18 with every last digit; of both, one digit altered or left out, one byte spoiled.
 fn imeis(out: &mut Vec<String>) {
-    for base in ["49015420323751", "490154203237518", "35209900176148", "00000000000000", "000000000000000", "99999999999999", "999999999999999", "35209900176148"] {
+    for base in ["49015420323751", "490154203237518", "35209900176148", "00000000000000", "000000000000000", "99999999999999", "999999999999999", "26053179311383", "260531793113837"] {
         for last in 0..=9 {
             out.push(format!("{}{}", base, last));
+        }
+    }
+    for count in [13, 14, 17, 18] {
+        for last in 0..=9 {
+            out.push(format!("{}{}", &"490154203237518043"[..count - 1], last));
+        }
+    }
+    for number in ["490154203237518", "4901542032375181"] {
+        for at in 0..number.len() {
+            let (front, rest) = number.split_at(at);
+            let next = (rest.as_bytes()[0] - b'0' + 1) % 10;
+            out.push(format!("{}{}{}", front, next, &rest[1..]));
+            for spoiled in ["/", ":", " ", "+", "a", "F", "\0", "\u{e9}", "\u{663}"] {
+                out.push(format!("{}{}{}", front, spoiled, &rest[1..]));
+            }
+            out.push(format!("{}{}", front, &rest[1..]));
         }
     }
     let mut rng = Rng(11);
@@ -162,6 +180,7 @@ fn imeis(out: &mut Vec<String>) {
     for line in [
         "4901542032375 8", "49015420323751a", "+49015420323751", "49015420323751\u{e9}", "4901542032375\u{663}", "\u{ff11}901542032375", "IMEI49015420323",
         "-90154203237518", "49015420323751\0", "490154203237518 ", " 490154203237518", "/90154203237518", ":90154203237518", "490154203237518\"",
+        "490154203237518f", "4901542032375181F", "+4901542032375181", "4901542032375181 ", " 4901542032375181", "490154203237-51-81",
     ] {
         out.push(line.to_string());
     }

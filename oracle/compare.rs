@@ -204,7 +204,7 @@ fn run(kind: Kind, seed: u64, count: usize) -> bool {
     tally.wrong == 0
 }
 
-/// The fixed list, what document 01 makes our side answer to it, and where that is not the Rust's answer.
+/// The fixed list, what the documents make our side answer to it, and where that is not the Rust's answer.
 fn sample(folder: &str) -> std::io::Result<()> {
     std::fs::create_dir_all(folder)?;
     let mut marks = String::new();

@@ -1,9 +1,10 @@
 //! Document 01's domain of equality, as document 02 narrows it, told from the input alone. Outside of it: the entry of docs/DIFFERENCES.md, and what each side then says.
 
+use crate::boundary::imei;
 use crate::texts::desk_numeral;
 use std::str::from_utf8;
 
-pub const ENTRIES: [(&str, &str); 10] = [
+pub const ENTRIES: [(&str, &str); 11] = [
     ("D1", "a line of more than 256 bytes"),
     ("D2", "a line that is not UTF-8"),
     ("D3", "an ICCID cut inside a character"),
@@ -14,17 +15,18 @@ pub const ENTRIES: [(&str, &str); 10] = [
     ("D8", "a request text that is too long"),
     ("D9", "a request text with a byte outside 32 to 126"),
     ("D19", "an operator number that is not five or six digits"),
+    ("D20", "sixteen digits"),
 ];
 
 /// `rust` is None where the entry leaves the Rust's answer open.
 pub struct Outside {
     pub entry: &'static str,
     pub rust: Option<String>,
-    pub ours: &'static str,
+    pub ours: String,
 }
 
-fn outside(entry: &'static str, rust: Option<&str>, ours: &'static str) -> Option<Outside> {
-    Some(Outside { entry, rust: rust.map(str::to_string), ours })
+fn outside(entry: &'static str, rust: Option<&str>, ours: &str) -> Option<Outside> {
+    Some(Outside { entry, rust: rust.map(str::to_string), ours: ours.to_string() })
 }
 
 const STOPS: Option<&str> = Some("stopped");
@@ -40,6 +42,9 @@ pub fn line(line: &[u8]) -> Option<Outside> {
     };
     if iccid_cut_inside(line) {
         return outside("D3", STOPS, "refused 3");
+    }
+    if line.len() == 16 && line.bytes().all(|byte| byte.is_ascii_digit()) {
+        return version_number(line);
     }
     if let Some(rest) = line.strip_prefix("+CMGR: ") {
         let fields: Vec<&str> = rest.split(',').collect();
@@ -66,6 +71,12 @@ pub fn line(line: &[u8]) -> Option<Outside> {
         }
     }
     None
+}
+
+/// Sixteen digits (document 02, CR 3). The Rust takes the last of them for a check digit.
+fn version_number(line: &str) -> Option<Outside> {
+    let rust = if line == imei(&line[..15]) { format!("Imei \"{}\"", line) } else { "refused 3".to_string() };
+    outside("D20", Some(&rust), &format!("Imei version \"{}\"", line))
 }
 
 /// Bytes 2, 4 and 6 are where the Rust cuts, each only if what stands before it was good.

@@ -142,7 +142,8 @@ fn iccid(rng: &mut Rng) -> String {
 fn imei(rng: &mut Rng) -> String {
     let count = if rng.percent(90) { rng.between(14, 15) } else { rng.between(10, 18) };
     let digits = rng.digits(count);
-    if rng.percent(80) {
+    // sixteen digits are good with any last one, so that both of the Rust's answers to them are drawn
+    if rng.percent(if count == 15 { 40 } else { 80 }) {
         return boundary::imei(&digits);
     }
     format!("{}{}", digits, rng.below(10))

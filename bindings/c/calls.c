@@ -37,6 +37,10 @@ int main(void)
     CHECK(sim7000_read_line(BYTES("CLOSE OK"), values) == SIM7000_NOT_ACCEPTED);
     CHECK(sim7000_read_line(BYTES("+HTTPTOFS: 200,31"), values) == 0);
     CHECK(values[0] == SIM7000_DOWNLOAD_INFO && values[1] == 200 && values[2] == 31);
+    CHECK(sim7000_read_line(BYTES("490154203237518"), values) == 0);
+    CHECK(values[0] == SIM7000_IMEI && values[1] == 0 && values[2] == 15 && values[3] == 0);
+    CHECK(sim7000_read_line(BYTES("4901542032375181"), values) == 0);
+    CHECK(values[0] == SIM7000_IMEI && values[1] == 0 && values[2] == 16 && values[3] == 1);
     CHECK(sim7000_sort_line(BYTES("OK")) == SIM7000_GENERIC_OK);
     CHECK(sim7000_sort_line(BYTES("\xff")) == SIM7000_REFUSED + SIM7000_LINE_NOT_UTF8);
 

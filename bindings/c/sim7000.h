@@ -45,7 +45,7 @@ enum {
     SIM7000_OPERATOR_INFO = 8,        /* mode 0, 1, 2 or 4; format 0, 1 or 2; 1 where the name is the fallback text; its start; its end */
     SIM7000_NETWORK_TIME = 9,         /* code 1, 61 to 65; 1 or 0; start and end of the time */
     SIM7000_DOWNLOAD_INFO = 10,       /* status code, 0 OtherErrors; length */
-    SIM7000_IMEI = 11,                /* its start; its end */
+    SIM7000_IMEI = 11,                /* its start; its end; 1 for a version number (sixteen digits, IMEISV), 0 for an IMEI (fifteen) */
     SIM7000_SMS_MESSAGE_FORMAT = 12,  /* 0 Pdu, 1 Text */
     SIM7000_SMS_MESSAGE = 13,         /* the sender's start; its end */
     SIM7000_GNSS_REPORT = 14,         /* 0 NotEnabled; or 1 NoFix, 1 or 0, satellites in view; or 2 Fix, year, month, day, hour, minute, second,

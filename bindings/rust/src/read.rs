@@ -164,10 +164,13 @@ pub enum StatusCode {
     OtherErrors,
 }
 
+/// The number of the equipment, the whole line (TS 23.003, 6.2).
 #[derive(Debug, Clone, Copy, PartialEq, Eq)]
-#[allow(missing_docs)]
 pub struct Imei<'a> {
+    /// Fifteen digits, or sixteen.
     pub imei: &'a [u8],
+    /// Sixteen digits are a version number (IMEISV), whose last two are the software's version; fifteen are an IMEI, whose last one is the check digit.
+    pub is_version_number: bool,
 }
 
 #[derive(Debug, Clone, Copy, PartialEq, Eq)]
@@ -402,7 +405,7 @@ fn response<'a>(line: &'a [u8], reader: u64, v: &[u64]) -> ResponseCode<'a> {
         }),
         9 => ResponseCode::NetworkTime(NetworkTime { code: SyncNtpStatusCode::of(v[0]), time: option(v[1], part(line, v[2], v[3])) }),
         10 => ResponseCode::DownloadInfo(DownloadInfo { status_code: StatusCode::of(v[0]), data_length: v[1] }),
-        11 => ResponseCode::Imei(Imei { imei: part(line, v[0], v[1]) }),
+        11 => ResponseCode::Imei(Imei { imei: part(line, v[0], v[1]), is_version_number: v[2] == 1 }),
         12 => ResponseCode::SmsMessageFormat(if v[0] == 0 { SmsMessageFormat::Pdu } else { SmsMessageFormat::Text }),
         _ => ResponseCode::SmsMessage(SmsMessage { sender: part(line, v[0], v[1]) }),
     }

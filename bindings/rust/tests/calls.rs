@@ -1,4 +1,4 @@
-//! Every call once, with document 01's lines and its example of a desk.
+//! Every call once, with the documents' lines and document 01's example of a desk.
 
 use sim7000::*;
 
@@ -7,7 +7,7 @@ fn read(line: &str) -> Line<'_> {
 }
 
 #[test]
-fn lines_of_document_01() {
+fn lines_of_the_documents() {
     let signal = |strength, quality| Line::Response(ResponseCode::SignalQuality(SignalQuality { signal_strength: strength, signal_quality: quality }));
     assert_eq!(read("+CSQ: 0,99"), signal(Some(0.0), None));
     assert_eq!(read("+CSQ: 31,99"), signal(Some(100.0), None));
@@ -17,7 +17,11 @@ fn lines_of_document_01() {
     assert_eq!(read("+CEREG: 2,+5"), registered(RegistrationStatus::Searching, None, None));
     assert_eq!(read("+CGREG: 2,1,\"00A5\",\"01B2\",7,a,b,c"), registered(RegistrationStatus::RegisteredHome, Some(165), Some(434)));
     assert_eq!(read("+HTTPTOFS: 200,x"), Line::Response(ResponseCode::DownloadInfo(DownloadInfo { status_code: StatusCode::Ok, data_length: 0 })));
-    assert_eq!(read("490154203237518"), Line::Response(ResponseCode::Imei(Imei { imei: b"490154203237518" })));
+    let imei = |digits, is_version_number| Line::Response(ResponseCode::Imei(Imei { imei: digits, is_version_number }));
+    assert_eq!(read("490154203237518"), imei(b"490154203237518", false));
+    assert_eq!(read("4901542032375181"), imei(b"4901542032375181", true));
+    assert_eq!(Line::from_line(b"490154203237517"), Err(Refusal(3)));
+    assert_eq!(Line::from_line(b"49015420323751810"), Err(Refusal(3)));
     assert_eq!(
         read("+COPS: 0"),
         Line::Response(ResponseCode::OperatorInfo(OperatorInfo { mode: OperatorMode::Automatic, format: OperatorFormat::Long, operator_name: b"" }))
@@ -106,6 +110,22 @@ fn the_other_events() {
     let expected = vec![line(Event::Failed, b"ERROR"), line(Event::Stray(0), b"OK"), line(Event::Stray(2), b"\xff"), line(Event::Stray(0), b"> "), line(Event::Overlong, b"")];
     assert_eq!(events(&bytes, 5), expected);
     assert_eq!(events(b"OK\n", 3), vec![line(Event::Short, b"OK")]);
+}
+
+/// AT+GSN is answered by an IMEI and by a version number, and by digits of no other count.
+#[test]
+fn what_answers_gsn() {
+    let answered = |number: &[u8]| {
+        let (mut desk, mut out) = (Desk::new(), [0; 64]);
+        assert!(desk.open(&Request::GetImei, &mut out).is_ok());
+        heard(&mut desk, &[number, b"\r\nOK\r\n"].concat(), 5)
+    };
+    for number in [&b"490154203237518"[..], b"4901542032375180", b"4901542032375181"] {
+        assert_eq!(answered(number), [line(Event::Taken, number), line(Event::Done, b"OK")]);
+    }
+    for number in [&b"490154203237517"[..], b"49015420323751", b"49015420323751810"] {
+        assert_eq!(answered(number), [line(Event::Stray(3), number), line(Event::Short, b"OK")]);
+    }
 }
 
 /// What an earlier command's late reply is in both modes.

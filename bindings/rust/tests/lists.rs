@@ -53,7 +53,7 @@ fn response(code: ResponseCode) -> Vec<u8> {
         ResponseCode::OperatorInfo(info) => named("OperatorInfo", vec![debug(info.mode), debug(info.format), quoted(info.operator_name)]),
         ResponseCode::NetworkTime(time) => named("NetworkTime", vec![debug(time.code), or_none(time.time, quoted)]),
         ResponseCode::DownloadInfo(info) => named("DownloadInfo", vec![debug(info.status_code), count(info.data_length)]),
-        ResponseCode::Imei(imei) => named("Imei", vec![quoted(imei.imei)]),
+        ResponseCode::Imei(Imei { imei, is_version_number }) => named(if is_version_number { "Imei version" } else { "Imei" }, vec![quoted(imei)]),
         ResponseCode::SmsMessageFormat(format) => named("SmsMessageFormat", vec![debug(format)]),
         ResponseCode::SmsMessage(sms) => named("SmsMessage", vec![quoted(sms.sender)]),
     }

@@ -15,6 +15,7 @@ use at_command::cpsi::SystemMode;
 use at_command::csq::SignalLevel;
 use at_command::csq::SignalQuality;
 use at_command::generic_response::SimError;
+use at_command::gsn::Imei;
 use at_command::httptofs::DownloadInfo;
 use at_command::httptofs::StatusCode;
 use console::output;
@@ -197,6 +198,13 @@ fn download_info(info: DownloadInfo) -> Said {
     plain(16, status_code(code), info.data_length, 0)
 }
 
+fn imei(id: Imei) -> Said {
+    if id.is_version_number {
+        return with_text(18, 0, 0, 0, id.imei);
+    }
+    with_text(17, 0, 0, 0, id.imei)
+}
+
 fn message_format(format: SmsMessageFormat) -> u64 {
     match format {
         SmsMessageFormat::Pdu => 0,
@@ -216,9 +224,9 @@ fn response(code: ResponseCode) -> Said {
         ResponseCode::OperatorInfo(info) => operator_info(info),
         ResponseCode::NetworkTime(time) => network_time(time),
         ResponseCode::DownloadInfo(info) => download_info(info),
-        ResponseCode::Imei(id) => with_text(17, 0, 0, 0, id.imei),
-        ResponseCode::SmsMessageFormat(format) => plain(18, message_format(format), 0, 0),
-        ResponseCode::SmsMessage(message) => with_text(19, 0, 0, 0, message.sender),
+        ResponseCode::Imei(id) => imei(id),
+        ResponseCode::SmsMessageFormat(format) => plain(19, message_format(format), 0, 0),
+        ResponseCode::SmsMessage(message) => with_text(20, 0, 0, 0, message.sender),
     }
 }
 
@@ -393,6 +401,7 @@ OperatorInfo,Automatic/Manual/ManualDeregister/ManualAutomatic,Long/Short/Numeri
 NetworkTime,Success/NetworkError/DnsResolutionError/ConnectionError/ServiceResponseError/ServiceResponseTimeout,\"/none
 DownloadInfo,Continue/Ok/PartialContent/BadRequest/NotFound/RequestTimeout/InternalServerError/NotHttpPdu/NetworkError/NoMemory/DnsError/StackBusy/SslContinue/OtherErrors,#
 Imei,\"
+Imei version,\"
 SmsMessageFormat,Pdu/Text
 SmsMessage,\"";
     let line = without_cr(whole);

@@ -1,5 +1,5 @@
--- The part that is handed out with the number 0 has the bytes of the text that document 01 names: of an IMEI line all, the sender and the operator's name without the quotes at their
--- ends, and all after the first comma as the time.
+-- The part that is handed out with the number 0 has the bytes of the text that the documents name: of an IMEI or a version number the whole line, the sender and the
+-- operator's name without the quotes at their ends, and all after the first comma as the time.
 use mathlib.Core.Path.{_≡_, refl, ap, sym, _∙_}
 use mathlib.Core.Bool.{Bool, true, false, cond}
 use mathlib.Core.List.{List, [], _∷_, _++_}
@@ -16,14 +16,15 @@ use Rattle.text.specs.Handed.{Handed, IsHanded}
 use Rattle.text.specs.Handed as stands
 use Rattle.text.specs.Line.{checked}
 use Rattle.text.specs.Part.{Span, spanOf, partOf, after, trimEnd, trimPlace}
-use Rattle.text.proofs.Accepts.{by-only, by-sized, by-fitting, by-either, by-need, by-checked, where-0}
+use Rattle.text.proofs.Accepts.{by-only, by-fitting, by-either, by-need, by-checked, where-0}
 use Rattle.text.proofs.Fields.{field-bytes}
 use Rattle.text.proofs.AtIndex.{at-end}
+use Rattle.text.proofs.Parts.{from-start}
 use Rattle.text.proofs.Trims.{trim-in, trim-bytes}
 use Rattle.at_command.specs.Cmgr.{cmgrFields, cmgrText}
 use Rattle.at_command.specs.Cntp.{NetTime, cntpRest, cntpText}
 use Rattle.at_command.specs.Cops.{Operator, inLine, inFallback, fieldOr, nameOf, copsFields, copsText}
-use Rattle.at_command.specs.Gsn.{imeiText}
+use Rattle.at_command.specs.Gsn.{Identity, imeiText}
 use Rattle.at_command.specs.Handed.{nameIn, timeIn, imeiHanded, nameHanded, timeHanded, senderHanded}
 use Rattle.at_command.specs.Unquoted.{unquoted, unquotedSpan, unquotedField}
 
@@ -75,8 +76,8 @@ field-at s n =
     unquoted-at s (nth n (fields 44 r)) (drop m (drop p r)) (7 + p)
     (sym (drop-drop p 7 s) ∙ sym (take-append-drop m (drop p r)) ∙ ap (λ (f : List ℕ). f ++ drop m (drop p r)) (field-bytes 44 n r))
 
-whole-at : (s : List ℕ) → bytesAt s (spanOf 0 s) ≡ s
-whole-at s = at-span s s 0 ∙ take-length s
+whole-at : (s : List ℕ) → bytesAt s (record { start = 0; end = length s }) ≡ s
+whole-at s = from-start s (length s) ∙ take-length s
 
 lent-at : (s : List ℕ) → bytesAt s (unquotedSpan 0 s) ≡ unquoted s
 lent-at s = unquoted-at s s (drop (length s) s) 0 (sym (take-append-drop (length s) s) ∙ ap (λ (f : List ℕ). f ++ drop (length s) s) (take-length s))
@@ -111,8 +112,10 @@ module _ (line fallback t : RefT (List ℕ)) where
   unfolding imeiHanded imeiText
   imei-is =
       let s = now line in
-      let Q : Span → Type 0 = λ (p : Span). Hands s (stands.inLine p) in
-      where-0 (Hands s) stands.inLine (checked imeiText s) (by-checked Q imeiText s (by-sized Q 15 16 s _ (by-only Q _ _ (by-only Q _ _ (in-line s (spanOf 0 s) (whole-at s))))))
+      let text : Identity → Handed = λ (i : Identity). stands.inLine (i .digits) in
+      let Q : Identity → Type 0 = λ (i : Identity). Hands s (text i) in
+      let all = in-line s (record { start = 0; end = length s }) (whole-at s) in
+      where-0 (Hands s) text (checked imeiText s) (by-checked Q imeiText s (by-either Q _ _ _ (λ e. all) (λ e. by-only Q _ _ all)))
 
   pub sender-is : senderHanded (now line) .refusal ≡ 0 → IsHanded line fallback (senderHanded (now line)) t → now t ≡ unquoted (nth 1 (fields 44 (drop 7 (now line))))
   unfolding senderHanded cmgrText cmgrFields

@@ -16,7 +16,7 @@ use Rattle.text.proofs.Begins.{begins-with, begins-same}
 use Rattle.text.proofs.Parts.{from-start}
 use Rattle.text.proofs.Tests.{never, not-some, and-left, and-right}
 use Rattle.text.proofs.Trims.{end-take}
-use Rattle.text.proofs.Yields.{Yields, AllYield, then, yields-only, yields-sized, yields-either, yields-need, yields-mapped}
+use Rattle.text.proofs.Yields.{Yields, yields-only, yields-sized, yields-either, yields-need, yields-mapped}
 use Rattle.at_command.specs.Ccid.{cardText, iccidText}
 use Rattle.at_command.specs.Cmgf.{cmgfText}
 use Rattle.at_command.specs.Cmgr.{cmgrText}
@@ -27,7 +27,7 @@ use Rattle.at_command.specs.Csq.{csqText}
 use Rattle.at_command.specs.Generic.{okText, errorText, promptText, closeText}
 use Rattle.at_command.specs.Gsn.{imeiText}
 use Rattle.at_command.specs.Httptofs.{httptofsText}
-use Rattle.at_command.specs.Response.{Response, readings, responseText}
+use Rattle.at_command.specs.Response.{Response, imei, readings, responseText}
 
 -- the line begins with "A", as commands do, or with "+U", or "+C" and one of these letters, as unsolicited lines do
 unfoldable pub reserved : List ℕ → Bool
@@ -88,40 +88,87 @@ pub refuses-3 : {A : Type 0} (x : Reading A) → Refuses x → x ≡ refused 3
 refuses-3 (read a) h = absurd h
 refuses-3 (refused k) h = ap refused h
 
--- and so does each of several
-all-refuse : {A : Type 0} (rs : List (Reading A)) → AllYield (λ a. ⊥) (λ k. k ≡ 3) rs → rs ≡ replicate (length rs) (refused 3)
-all-refuse [] h = refl
-all-refuse (x ∷ rs) h = rw (refuses-3 x (h .0), ← all-refuse rs (h .1))
+unless : {A : Type 0} (t : Bool) (q : Reading A) → (t ≡ true → ⊥) → Refuses (only t q)
+unless t q f = yields-only _ _ t q refl (λ e. absurd (f e))
+
+-- `front` holds of no line that begins with one of the texts of ten readers
+pub record Wordless (front : List ℕ → Bool) : Type 0 where
+  pub ok : (t : List ℕ) → front (bytes "OK" ++ t) ≡ false
+  pub shut : (t : List ℕ) → front (bytes "SHUT OK" ++ t) ≡ false
+  pub cme : (t : List ℕ) → front (bytes "+CME ERROR: " ++ t) ≡ false
+  pub cms : (t : List ℕ) → front (bytes "+CMS ERROR: " ++ t) ≡ false
+  pub error : (t : List ℕ) → front (bytes "ERROR" ++ t) ≡ false
+  pub prompt : (t : List ℕ) → front (bytes "> " ++ t) ≡ false
+  pub csq : (t : List ℕ) → front (bytes "+CSQ: " ++ t) ≡ false
+  pub cpsi : (t : List ℕ) → front (bytes "+CPSI: " ++ t) ≡ false
+  pub cops : (t : List ℕ) → front (bytes "+COPS: " ++ t) ≡ false
+  pub cntp : (t : List ℕ) → front (bytes "+CNTP: " ++ t) ≡ false
+  pub httptofs : (t : List ℕ) → front (bytes "+HTTPTOFS: " ++ t) ≡ false
+  pub cmgf : (t : List ℕ) → front (bytes "+CMGF: " ++ t) ≡ false
+  pub cmgr : (t : List ℕ) → front (bytes "+CMGR: " ++ t) ≡ false
+
+-- so where it holds of the line, these ten refuse it
+module _ (front : List ℕ → Bool) (w : Wordless front) (l : List ℕ) (h : front l ≡ true) where
+  begins-not : (p : List ℕ) → ((t : List ℕ) → front (p ++ t) ≡ false) → startsWith p l ≡ true → ⊥
+  begins-not p f e = let z : front l ≡ false = begins-with (λ (s : List ℕ). front s ≡ false) p l f e in never (cc)
+
+  is-not : (p : List ℕ) → ((t : List ℕ) → front (p ++ t) ≡ false) → same l p ≡ true → ⊥
+  is-not p f e = begins-not p f (begins-same p l e)
+
+  prefixed : {A : Type 0} (p : List ℕ) → ((t : List ℕ) → front (p ++ t) ≡ false) → (q : Reading A) → Refuses (only (startsWith p l) q)
+  prefixed p f q = unless (startsWith p l) q (begins-not p f)
+
+  ok-no : Refuses (okText l)
+  unfolding okText
+  ok-no = yields-either _ _ _ _ _ (λ e. absurd (is-not (bytes "OK") (w .ok) e)) (λ e. unless _ _ (is-not (bytes "SHUT OK") (w .shut)))
+
+  error-no : Refuses (errorText l)
+  unfolding errorText
+  error-no =
+      yields-either _ _ _ _ _ (λ e. absurd (begins-not (bytes "+CME ERROR: ") (w .cme) e))
+      (λ e. yields-either _ _ _ _ _ (λ e. absurd (begins-not (bytes "+CMS ERROR: ") (w .cms) e)) (λ e. unless _ _ (is-not (bytes "ERROR") (w .error))))
+
+  prompt-no : Refuses (promptText l)
+  unfolding promptText
+  prompt-no = unless _ _ (is-not (bytes "> ") (w .prompt))
+
+  -- whatever fallbacks are lent
+  operator-no : (format name : List ℕ) → Refuses (copsText format name l)
+  unfolding copsText
+  operator-no format name = prefixed (bytes "+COPS: ") (w .cops) _
+
+  next : {A : Type 0} (g : A → Response) (x : Reading A) {rs qs : List (Reading Response)} → Refuses x → rs ≡ qs → mapped g x ∷ rs ≡ refused 3 ∷ qs
+  next g x {rs} {qs} r e = ap (λ (y : Reading Response). y ∷ rs) (refuses-3 (mapped g x) (yields-mapped _ _ g x r)) ∙ ap (λ (ys : List (Reading Response)). refused 3 ∷ ys) e
+
+  -- and where two more do, what is left is the IMEI's
+  pub but-imei : Refuses (closeText l) → Refuses (iccidText l) → readings l ≡ replicate 10 (refused 3) ++ mapped imei (imeiText l) ∷ refused 3 ∷ refused 3 ∷ []
+  unfolding readings csqText cpsiText cntpText httptofsText cmgfText cmgrText
+  but-imei c i =
+      next _ _ ok-no
+      (next _ _ error-no
+      (next _ _ prompt-no
+      (next _ _ c
+      (next _ _ i
+      (next _ _ (prefixed (bytes "+CSQ: ") (w .csq) _)
+      (next _ _ (prefixed (bytes "+CPSI: ") (w .cpsi) _)
+      (next _ _ (operator-no (bytes "0") (bytes ""))
+      (next _ _ (prefixed (bytes "+CNTP: ") (w .cntp) _)
+      (next _ _ (prefixed (bytes "+HTTPTOFS: ") (w .httptofs) _)
+      (ap (λ (rs : List (Reading Response)). mapped imei (imeiText l) ∷ rs)
+      (next _ _ (prefixed (bytes "+CMGF: ") (w .cmgf) _)
+      (next _ _ (prefixed (bytes "+CMGR: ") (w .cmgr) _)
+      refl))))))))))))
+
+-- ---- a line that begins as a command or an unsolicited one does
+
+reserved-wordless : Wordless reserved
+unfolding reserved
+reserved-wordless =
+    record { ok = λ t. refl; shut = λ t. refl; cme = λ t. refl; cms = λ t. refl; error = λ t. refl; prompt = λ t. refl; csq = λ t. refl; cpsi = λ t. refl; cops = λ t. refl; cntp = λ t. refl; httptofs = λ t. refl; cmgf = λ t. refl; cmgr = λ t. refl }
 
 module _ (l : List ℕ) (h : reserved l ≡ true) where
   other : reserved l ≡ false → ⊥
   other e = never (cc)
-
-  begins-not : (p : List ℕ) → ((t : List ℕ) → reserved (p ++ t) ≡ false) → startsWith p l ≡ true → ⊥
-  begins-not p f e = other (begins-with (λ (s : List ℕ). reserved s ≡ false) p l f e)
-
-  is-not : (p : List ℕ) → ((t : List ℕ) → reserved (p ++ t) ≡ false) → same l p ≡ true → ⊥
-  is-not p f e = begins-not p f (begins-same p l e)
-
-  unless : {A : Type 0} (t : Bool) (q : Reading A) → (t ≡ true → ⊥) → Refuses (only t q)
-  unless t q f = yields-only _ _ t q refl (λ e. absurd (f e))
-
-  prefixed : {A : Type 0} (p : List ℕ) → ((t : List ℕ) → reserved (p ++ t) ≡ false) → (q : Reading A) → Refuses (only (startsWith p l) q)
-  prefixed p f q = unless (startsWith p l) q (begins-not p f)
-
-  ok-no : Refuses (okText l)
-  unfolding okText reserved
-  ok-no = yields-either _ _ _ _ _ (λ e. absurd (is-not (bytes "OK") (λ t. refl) e)) (λ e. unless _ _ (is-not (bytes "SHUT OK") (λ t. refl)))
-
-  error-no : Refuses (errorText l)
-  unfolding errorText reserved
-  error-no =
-      yields-either _ _ _ _ _ (λ e. absurd (begins-not (bytes "+CME ERROR: ") (λ t. refl) e))
-      (λ e. yields-either _ _ _ _ _ (λ e. absurd (begins-not (bytes "+CMS ERROR: ") (λ t. refl) e)) (λ e. unless _ _ (is-not (bytes "ERROR") (λ t. refl))))
-
-  prompt-no : Refuses (promptText l)
-  unfolding promptText reserved
-  prompt-no = unless _ _ (is-not (bytes "> ") (λ t. refl))
 
   close-no : Refuses (closeText l)
   unfolding closeText
@@ -139,37 +186,16 @@ module _ (l : List ℕ) (h : reserved l ≡ true) where
 
   imei-no : Refuses (imeiText l)
   unfolding imeiText
-  imei-no = yields-sized _ _ 15 16 l _ refl (λ e. unless _ _ (λ e. other (digits-front l e)))
-
-  -- whatever fallbacks are lent
-  operator-no : (format name : List ℕ) → Refuses (copsText format name l)
-  unfolding copsText reserved
-  operator-no format name = prefixed (bytes "+COPS: ") (λ t. refl) _
+  imei-no =
+      yields-either _ _ _ _ _ (λ e. absurd (other (digits-front l (and-left _ _ e)))) (λ e. unless _ _ (λ e. other (digits-front l (and-left _ _ e))))
 
   pub no-operator : (format name : List ℕ) → copsText format name l ≡ refused 3
-  no-operator format name = refuses-3 (copsText format name l) (operator-no format name)
-
-  named : {A : Type 0} (g : A → Response) (x : Reading A) → Refuses x → Refuses (mapped g x)
-  named g x = yields-mapped _ _ g x
+  no-operator format name = refuses-3 (copsText format name l) (operator-no reserved reserved-wordless l h format name)
 
   pub no-readings : readings l ≡ replicate 13 (refused 3)
-  unfolding readings csqText cpsiText cntpText httptofsText cmgfText cmgrText reserved
   no-readings =
-      all-refuse (readings l)
-      (then (named _ _ ok-no)
-      (then (named _ _ error-no)
-      (then (named _ _ prompt-no)
-      (then (named _ _ close-no)
-      (then (named _ _ iccid-no)
-      (then (named _ _ (prefixed (bytes "+CSQ: ") (λ t. refl) _))
-      (then (named _ _ (prefixed (bytes "+CPSI: ") (λ t. refl) _))
-      (then (named _ _ (operator-no (bytes "0") (bytes "")))
-      (then (named _ _ (prefixed (bytes "+CNTP: ") (λ t. refl) _))
-      (then (named _ _ (prefixed (bytes "+HTTPTOFS: ") (λ t. refl) _))
-      (then (named _ _ imei-no)
-      (then (named _ _ (prefixed (bytes "+CMGF: ") (λ t. refl) _))
-      (then (named _ _ (prefixed (bytes "+CMGR: ") (λ t. refl) _))
-      tt)))))))))))))
+      but-imei reserved reserved-wordless l h close-no iccid-no
+      ∙ ap (λ (x : Reading Response). replicate 10 (refused 3) ++ x ∷ refused 3 ∷ refused 3 ∷ []) (refuses-3 (mapped imei (imeiText l)) (yields-mapped _ _ imei (imeiText l) imei-no))
 
   pub no-response : responseText l ≡ refused 3
   unfolding responseText firstOf

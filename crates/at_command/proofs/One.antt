@@ -14,6 +14,7 @@ use Rattle.at_command.specs.Cntp.{NetTime}
 use Rattle.at_command.specs.Cops.{Name, inLine, inFallback, Operator}
 use Rattle.at_command.specs.Cpsi.{System}
 use Rattle.at_command.specs.Generic.{Fault, generic, cme, cms}
+use Rattle.at_command.specs.Gsn.{Identity}
 use Rattle.at_command.specs.Httptofs.{Download}
 use Rattle.at_command.specs.Response.{Response, ok, error, prompt, closeOk, iccid, signal, system, operator, time, download, imei, format, message}
 use Rattle.at_command.specs.says.Ccid as Ccid
@@ -239,8 +240,8 @@ downloadOf d = record { «status_code» = statusOf (d .status); «data_length» 
 download-back : (d : DownloadInfo) → downloadOf (Httptofs.infoSays d) ≡ d
 download-back d = rw (status-back (d .«status_code»))
 
-abbrev imeiOf : Span → Imei
-imeiOf p = record { imei = place p }
+abbrev imeiOf : Identity → Imei
+imeiOf i = record { imei = place (i .digits); «is_version_number» = i .isVersionNumber }
 
 abbrev messageOf : Span → SmsMessage
 messageOf p = record { sender = place p }

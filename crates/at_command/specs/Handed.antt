@@ -10,11 +10,11 @@ use Rattle.text.specs.Part.{Span}
 use Rattle.at_command.specs.Cmgr.{cmgrText}
 use Rattle.at_command.specs.Cntp.{NetTime, cntpText}
 use Rattle.at_command.specs.Cops.{Name, inLine, inFallback, Operator, copsText}
-use Rattle.at_command.specs.Gsn.{imeiText}
+use Rattle.at_command.specs.Gsn.{Identity, imeiText}
 
--- the IMEI
+-- the IMEI, or the version number
 unfoldable pub imeiHanded : List ℕ → Handed
-imeiHanded s = handed stands.inLine (checked imeiText s)
+imeiHanded s = handed (λ (i : Identity). stands.inLine (i .digits)) (checked imeiText s)
 
 -- the operator's name: in the line, or in the text lent for it
 unfoldable pub nameIn : Name → Handed

@@ -13,7 +13,7 @@ use Rattle.at_command.specs.Csq.{Signal, csqText}
 use Rattle.at_command.specs.Kind.{Kind, genericOk, simError, writePrompt, signalQuality, systemInfo, operatorInfo, networkTime, downloadInfo, smsMessageFormat, smsMessage}
 use Rattle.at_command.specs.Kind as K
 use Rattle.at_command.specs.Generic.{Fault, okText, errorText, promptText, closeText}
-use Rattle.at_command.specs.Gsn.{imeiText}
+use Rattle.at_command.specs.Gsn.{Identity, imeiText}
 use Rattle.at_command.specs.Httptofs.{Download, httptofsText}
 use Rattle.text.specs.Bytes.{bytes}
 
@@ -28,7 +28,7 @@ pub data Response : Type 0 where
   operator : Operator → Response
   time : NetTime → Response
   download : Download → Response
-  imei : Span → Response
+  imei : Identity → Response
   format : ℕ → Response
   message : Span → Response
 

@@ -1,4 +1,4 @@
-// AT+GSN: the IMEI.
+// AT+GSN: the IMEI, or the IMEI with its software version.
 use crate::request::Encoded;
 use crate::write;
 use text::bytes;
@@ -20,9 +20,10 @@ ghost use Rattle.at_command.specs.Request.{getImei};
 ghost use Rattle.at_command.specs.says.Gsn.{says, ImeiKeeps};
 ghost use Rattle.at_command.specs.says.Request.{EncodeKeeps};
 
-// The IMEI's place, which is the whole line.
+// Where the digits stand, which is the whole line, and what they are: fifteen an IMEI, sixteen a version number (TS 23.003's IMEISV).
 pub struct Imei {
     pub imei: Place,
+    pub is_version_number: bool,
 }
 
 pub enum ImeiAnswer {
@@ -40,7 +41,7 @@ fn double(d: u8) -> u8
 
 // The check digit that belongs to the digits of s.
 fn check_digit(s: &[u8]) -> u8
-    requires { ⌜ (allDigits (now s) ≡ true) × (length (now s) ≤ 16) ⌝ }
+    requires { ⌜ (allDigits (now s) ≡ true) × (length (now s) ≤ 14) ⌝ }
     ensures { λ r. ⌜ r ≡ checkDigit (now (s .entry)) ⌝ }
 {
     let mut sum: u8 = 0;
@@ -75,12 +76,19 @@ impl Imei {
         if !bytes::all_digits(line) {
             return ImeiAnswer::Refused(3);
         }
-        let last = line[n - 1] - 48;
-        if last != check_digit(part::part(line, 0, n - 1)) {
+        if n == 16 {
+            return ImeiAnswer::Value(Imei {
+                imei: Place { start: 0, end: n },
+                is_version_number: true,
+            });
+        }
+        let last = line[14] - 48;
+        if last != check_digit(part::part(line, 0, 14)) {
             return ImeiAnswer::Refused(3);
         }
         ImeiAnswer::Value(Imei {
             imei: Place { start: 0, end: n },
+            is_version_number: false,
         })
     }
 
@@ -94,7 +102,7 @@ impl Imei {
         Imei::from_checked(line)
     }
 
-    // Where the IMEI stands in the line.
+    // Where the number stands in the line.
     fn imei_at(line: &[u8]) -> TextAt
         ensures { λ r. ⌜ atSays r ≡ imeiHanded (now (line .entry)) ⌝ }
     {
@@ -104,7 +112,7 @@ impl Imei {
         }
     }
 
-    // The IMEI, empty where the line is refused, with the number of the refusal.
+    // The IMEI or version number, empty where the line is refused, with the number of the refusal.
     pub fn imei_text<'a>(line: &'a [u8]) -> LineText<'a>
         ensures { λ r. ⌜ TextKeeps (line .entry) (line .entry) (imeiHanded (now (line .entry))) r ⌝ }
     {

@@ -27,13 +27,14 @@ use Rattle.unsolicited.specs.Urc.{urcReadings}
 use Rattle.desk.specs.Cut.{bare, cutOne}
 use Rattle.trial.specs.Answer.{allReadings, saidText, lineSaid}
 use Rattle.trial.specs.Sort.{lineSort}
+use Rattle.trial.proofs.Equipment.{version-sort}
 use Rattle.desk.specs.Machine.{tells, judgeAll}
 use Rattle.desk.specs.Lines.{cutter}
 use Rattle.desk.specs.Judge.{table, isEcho, ruling, judge}
 use Rattle.desk.specs.Rules.{Mode, rulesOf, Plain, plain}
 use Rattle.desk.specs.Desk.{State, desk, resetState}
 use Rattle.desk.specs.Keeps.{openedBy}
-use Rattle.desk.specs.Examples.{csq, Examples}
+use Rattle.desk.specs.Examples.{csq, Examples, VersionTaken}
 use Rattle.desk.specs.Demand.{accepts}
 use Rattle.desk.proofs.Commands.{command-some}
 use Rattle.desk.proofs.Demand.{by-view, plain-ruled, open-fresh}
@@ -42,6 +43,10 @@ use Rattle.desk.proofs.Lives.{open-accepts}
 pub examples : Examples
 unfolding judgeAll judge ruling isEcho table lineSort lineSaid saidText allReadings urcReadings checked lineCheck utf8 charSize behind tells cutter cutOne bare startsWith same endsWith has only either sized need mapped firstOf readings okText errorText promptText closeText iccidText cardText csqText csqRest csqCodes levelOf cpsiText copsText cntpText httptofsText imeiText cmgfText cmgrText ugnsinfText cregText cgregText ceregText ceregFields ceregStatus unsigned signed magnitude digitsOf digitValue valueOf
 examples = record { shown = refl; echoed = refl; fault = refl }
+
+pub version-taken : VersionTaken
+unfolding judge ruling table
+version-taken l all h = rw (version-sort l all h)
 
 -- A command is given up with a reset, and the next is opened: whatever the desk's past, it tells what these rules give.
 pub after-reset : (mode : Mode) (s : State) (given : List ℕ) → tells desk (openedBy mode (resetState s) GetSignalQuality [] [] (replicate 256 0) .state) given ≡ rulesOf (csq mode) given

@@ -1,14 +1,17 @@
 -- Runs worked out by the rules with AT+CSQ open, for a reader of the papers. Document 01's: an unsolicited line comes before the two answers. And document 02's,
--- CR 4: the answers of an AT+CSQ that was given up come late, in both modes; and what Echo stands in place of.
+-- CR 4: the answers of an AT+CSQ that was given up come late, in both modes; and what Echo stands in place of. Last, with AT+GSN open, CR 3: sixteen digits are an answer.
 use Prim.Native.Nat.{ℕ}
 use mathlib.Core.Path.{_≡_}
 use mathlib.Core.Bool.{true}
 use mathlib.Core.List.{List, [], _∷_}
-use Rattle.text.specs.Bytes.{bytes}
+use lib.ListN.{length}
+use Rattle.text.specs.Bytes.{bytes, allDigits}
 use Rattle.text.specs.Reading.{read}
-use Rattle.at_command.specs.Request.{Asked, getSignalQuality, Numbers, encodeReading}
+use Rattle.at_command.specs.Kind.{genericOk}
+use Rattle.at_command.specs.Request.{Asked, getSignalQuality, getImei, Numbers, encodeReading}
 use Rattle.trial.specs.Sort.{lineSort}
-use Rattle.desk.specs.Judge.{Event, Taken, Done, Stray, Unsolicited, Echo, Seen, Command, stays, table, isEcho}
+use Rattle.desk.specs.Lines.{line}
+use Rattle.desk.specs.Judge.{Event, Taken, Done, Stray, Unsolicited, Echo, Seen, Command, awaiting, stays, table, isEcho, judge}
 use Rattle.desk.specs.Rules.{Mode, plainMode, echoMode, commandFor, rulesOf}
 
 abbrev pub csq : Mode → Command
@@ -37,3 +40,7 @@ pub record Examples : Type 0 where
 -- A line that equals a command which a writer gave, with its CR or without, is a Stray 3 to every command by the table: so Echo stands in place of nothing else.
 abbrev pub EchoForStray : Type 0
 EchoForStray = (a : Asked) (room : ℕ) (w : List ℕ) → Numbers a → encodeReading a room ≡ read w → (l : List ℕ) → isEcho w l ≡ true → (c : Command) → table c (lineSort l) ≡ stays c (Stray 3)
+
+-- Every line of sixteen digits is an answer to AT+GSN: it is taken, and OK is awaited next. In echo mode this is the command after its echo.
+abbrev pub VersionTaken : Type 0
+VersionTaken = (l : List ℕ) → allDigits l ≡ true → length l ≡ 16 → judge lineSort (commandFor plainMode getImei) (line l) ≡ record { command = awaiting (genericOk ∷ []); event = seen Taken l }

@@ -2,6 +2,7 @@
 -- float its 32 bits, and what may be missing 1 and its values, or 0 and zeros.
 use Prim.Native.Nat.{ℕ}
 use mathlib.Core.Path.{_≡_}
+use mathlib.Core.Bool.{cond}
 use mathlib.Core.List.{List, [], _∷_, _++_}
 use mathlib.Core.Option.{Option, none, some}
 use lib.Ieee.{Float}
@@ -70,7 +71,7 @@ responseValues (system s) = s .systemMode ∷ s .operationMode ∷ []
 responseValues (operator o) = o .mode ∷ o .format ∷ nameIn (o .name) ∷ nameSpan (o .name) .start ∷ nameSpan (o .name) .end ∷ []
 responseValues (time t) = t .code ∷ there (t .time) ∷ startOr0 (t .time) ∷ endOr0 (t .time) ∷ []
 responseValues (download d) = d .status ∷ d .size ∷ []
-responseValues (imei p) = p .start ∷ p .end ∷ []
+responseValues (imei i) = i .digits .start ∷ i .digits .end ∷ cond (i .isVersionNumber) 1 0 ∷ []
 responseValues (format n) = n ∷ []
 responseValues (message sender) = sender .start ∷ sender .end ∷ []
 

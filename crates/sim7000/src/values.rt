@@ -10,6 +10,7 @@ use at_command::cops::OperatorName;
 use at_command::cpsi::SystemInfo;
 use at_command::csq::SignalQuality;
 use at_command::generic_response::SimError;
+use at_command::gsn::Imei;
 use at_command::httptofs::DownloadInfo;
 use numeral::bits;
 use text::part::Place;
@@ -21,13 +22,14 @@ ghost use mathlib.Core.Path.{_≡_};
 ghost use mathlib.Core.List.{[], _∷_};
 ghost use Rattle.text.specs.says.Part.{placeSays};
 ghost use Rattle.numeral.specs.Bits.{bitsOf};
-ghost use Rattle.at_command.specs.Response.{error, iccid, signal, system, operator, time, download};
+ghost use Rattle.at_command.specs.Response.{error, iccid, signal, system, operator, time, download, imei};
 ghost use Rattle.at_command.specs.says.Ccid.{cardSays};
 ghost use Rattle.at_command.specs.says.Cntp as Cntp;
 ghost use Rattle.at_command.specs.says.Cops as Cops;
 ghost use Rattle.at_command.specs.says.Cpsi as Cpsi;
 ghost use Rattle.at_command.specs.says.Csq.{signalSays};
 ghost use Rattle.at_command.specs.says.Generic.{faultSays};
+ghost use Rattle.at_command.specs.says.Gsn.{imeiSays};
 ghost use Rattle.at_command.specs.says.Httptofs as Httptofs;
 ghost use Rattle.at_command.specs.says.Response.{codeSays};
 ghost use Rattle.unsolicited.specs.Gnss.{fix};
@@ -73,12 +75,13 @@ fn row(reader: u64, a: u64, b: u64, c: u64, d: u64, e: u64) -> [u64; 20]
     ]
 }
 
-fn place_values(reader: u64, place: Place) -> [u64; 20]
-    ensures { λ r. ⌜ r ≡ padded (reader ∷ placeSays place .start ∷ placeSays place .end ∷ []) ⌝ }
+// A text's place, and one value more.
+fn place_values(reader: u64, place: Place, more: u64) -> [u64; 20]
+    ensures { λ r. ⌜ r ≡ padded (reader ∷ placeSays place .start ∷ placeSays place .end ∷ more ∷ []) ⌝ }
 {
     let start = numbers::number_in(place.start);
     let end = numbers::number_in(place.end);
-    row(reader, start, end, 0, 0, 0)
+    row(reader, start, end, more, 0, 0)
 }
 
 fn error_values(fault: SimError) -> [u64; 20]
@@ -179,6 +182,15 @@ fn download_values(info: DownloadInfo) -> [u64; 20]
     row(10, code.number() as u64, info.data_length, 0, 0, 0)
 }
 
+fn imei_values(number: Imei) -> [u64; 20]
+    ensures { λ r. ⌜ r ≡ lineValues (response (imei (imeiSays number))) ⌝ }
+{
+    if number.is_version_number {
+        return place_values(11, number.imei, 1);
+    }
+    place_values(11, number.imei, 0)
+}
+
 pub(crate) fn response_values(code: ResponseCode) -> [u64; 20]
     ensures { λ r. ⌜ r ≡ lineValues (response (codeSays code)) ⌝ }
 {
@@ -193,7 +205,7 @@ pub(crate) fn response_values(code: ResponseCode) -> [u64; 20]
         ResponseCode::OperatorInfo(info) => operator_values(info),
         ResponseCode::NetworkTime(net) => time_values(net),
         ResponseCode::DownloadInfo(info) => download_values(info),
-        ResponseCode::Imei(number) => place_values(11, number.imei),
+        ResponseCode::Imei(number) => imei_values(number),
         ResponseCode::SmsMessageFormat(format) => row(
             12,
             codes::message_format(format),
@@ -202,7 +214,7 @@ pub(crate) fn response_values(code: ResponseCode) -> [u64; 20]
             0,
             0,
         ),
-        ResponseCode::SmsMessage(message) => place_values(13, message.sender),
+        ResponseCode::SmsMessage(message) => place_values(13, message.sender, 0),
     }
 }
 

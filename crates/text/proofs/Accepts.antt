@@ -8,8 +8,8 @@ use native.Mathlib.Omega.{arith}
 use borrow.Author.Tests.{eqb-false}
 use Rattle.text.specs.Handed.{Handed, handed}
 use Rattle.text.specs.Line.{lineCheck, checked}
-use Rattle.text.specs.Reading.{Reading, read, refused, only, either, sized, fitting, need}
-use Rattle.text.proofs.Yields.{Yields, yields-only, yields-sized, yields-fitting, yields-either, yields-need, yields-checked}
+use Rattle.text.specs.Reading.{Reading, read, refused, only, either, fitting, need}
+use Rattle.text.proofs.Yields.{Yields, yields-only, yields-fitting, yields-either, yields-need, yields-checked}
 
 abbrev Above : ℕ → Type 0
 Above k = k ≡ 0 → ⊥
@@ -20,9 +20,6 @@ module _ {A : Type 0} (Q : A → Type 0) where
 
   pub by-only : (t : Bool) (r : Reading A) → Accepts r → Accepts (only t r)
   by-only t r h = yields-only Q Above t r (λ e. omega arith) (λ e. h)
-
-  pub by-sized : (lo hi : ℕ) (s : List ℕ) (r : Reading A) → Accepts r → Accepts (sized lo hi s r)
-  by-sized lo hi s r h = yields-sized Q Above lo hi s r (λ e. omega arith) (λ e. h)
 
   pub by-fitting : (n : ℕ) (s : List ℕ) (r : Reading A) → Accepts r → Accepts (fitting n s r)
   by-fitting n s r h = yields-fitting Q Above n s r (λ e. omega arith) (λ e. h)

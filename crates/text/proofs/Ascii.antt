@@ -1,11 +1,11 @@
--- Bytes in a range: those of two texts together, in a wider range, and none below it; digits are printable. A line of ASCII bytes is UTF-8, and passes the check if it is not too long. Assumes nothing.
+-- Bytes in a range: those of two texts together, and of two parts, in a wider range, and none below it; digits are printable. A line of ASCII bytes is UTF-8, and passes the check if it is not too long. Assumes nothing.
 use mathlib.Core.Path.{_≡_, refl, ap, sym, _∙_}
 use mathlib.Core.Bool.{Bool, true, _&&_, and-assoc}
 use mathlib.Core.List.{List, [], _∷_, _++_}
 use Prim.Native.Nat.{ℕ, _≤_, _<_}
 use native.Mathlib.Omega.{arith}
 use lib.Dec.{leb}
-use lib.ListN.{length}
+use lib.ListN.{length, take, drop, take-append-drop}
 use borrow.Author.Tests.{leb-true, le-leb, ne-eqb}
 use Rattle.text.specs.Bytes.{within, countOf, allWithin, allDigits}
 use Rattle.text.specs.Line.{lineCheck}
@@ -18,6 +18,11 @@ module _ (lo hi : ℕ) where
   pub within-append : (s t : List ℕ) → allWithin lo hi (s ++ t) ≡ allWithin lo hi s && allWithin lo hi t
   within-append [] t = refl
   within-append (x ∷ s) t = ap (λ (b : Bool). within lo hi x && b) (within-append s t) ∙ sym (and-assoc (within lo hi x) (allWithin lo hi s) (allWithin lo hi t))
+
+  pub within-parts : (n : ℕ) (s : List ℕ) → allWithin lo hi s ≡ true → (allWithin lo hi (take n s) ≡ true) × (allWithin lo hi (drop n s) ≡ true)
+  within-parts n s e =
+      let both = sym (within-append (take n s) (drop n s)) ∙ ap (allWithin lo hi) (take-append-drop n s) ∙ e in
+      (and-left _ _ both, and-right (allWithin lo hi (take n s)) _ both)
 
   pub within-wider : (a b : ℕ) → a ≤ lo → hi ≤ b → (s : List ℕ) → allWithin lo hi s ≡ true → allWithin a b s ≡ true
   within-wider a b l h [] e = refl

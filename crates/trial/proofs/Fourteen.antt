@@ -33,4 +33,4 @@ unfolding rows lineSaid saidText allReadings urcReadings readings
     httptofsText downloadOf imeiText cmgfText cmgrText
     ugnsinfText ugnsinfFields cregText cgregText ceregText registrationFields registrationAt ceregFields ceregStatus hexIn statusOf numeralText floatOf N.decimalOf N.behindSign N.unsigned
 fourteen =
-    (λ r k. k, (λ r k. k, (λ r k. k, (λ r k. k, (λ r k. k, (λ r k. k, (λ r k. k, (λ r k. k, (λ r k. k, (λ r k. k, (λ r k. k, (λ r k. k, (λ r k. k, (λ r k. k, (λ r k. k, (λ r k. k .exact, (λ r k. k, tt)))))))))))))))))
+    (λ r k. k, (λ r k. k, (λ r k. k, (λ r k. k, (λ r k. k, (λ r k. k, (λ r k. k, (λ r k. k, (λ r k. k, (λ r k. k, (λ r k. k, (λ r k. k, (λ r k. k, (λ r k. k, (λ r k. k, (λ r k. k, (λ r k. k, (λ r k. k, (λ r k. k, (λ r k. k, (λ r k. k, (λ r k. k, (λ r k. k, (λ r k. k, (λ r k. k .exact, (λ r k. k, tt))))))))))))))))))))))))))

@@ -2,5 +2,6 @@ pub mod Refusals
 pub mod Apart
 pub mod Turns
 pub mod Commands
+pub mod Equipment
 pub mod Fourteen
 pub mod One

@@ -66,7 +66,7 @@ module _ (l : List ℕ) where
   text-begun e =
       in-turn l ∙ ap (λ (r : Reading Response). orElse (mapped response r) (each unsolicited (urcReadings l))) (responses-not l e) ∙ first-each unsolicited 3 (urcReadings l)
 
-  text-other : begins l ≡ false → saidText l ≡ mapped response (responseText l)
+  pub text-other : begins l ≡ false → saidText l ≡ mapped response (responseText l)
   unfolding mapped firstOf
   text-other e = in-turn l ∙ ap (λ (us : List (Reading Unsolicited)). orElse (mapped response (responseText l)) (each unsolicited us)) (urcs-not l e) ∙ go (responseText l) (responses-refuse l)
     where

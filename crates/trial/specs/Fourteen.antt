@@ -1,6 +1,6 @@
--- Document 01, "Lines to prove and to run": the fourteen, as one table.
+-- Document 01, "Lines to prove and to run": the fourteen, as one table, the tenth as document 02, CR 3, has it.
 use Prim.Native.Nat.{ℕ}
-use mathlib.Core.Bool.{false}
+use mathlib.Core.Bool.{true, false}
 use mathlib.Core.List.{List, [], _∷_, _++_}
 use mathlib.Core.Option.{none, some}
 use lib.IntN.{pos}
@@ -9,6 +9,7 @@ use lib.Ieee.{Float, fin}
 use Rattle.text.specs.Bytes.{bytes}
 use Rattle.text.specs.Reading.{Reading, read, refused}
 use Rattle.at_command.specs.Cops.{inFallback}
+use Rattle.at_command.specs.Gsn.{whole}
 use Rattle.at_command.specs.Response.{signal, operator, download, imei}
 use Rattle.unsolicited.specs.Gnss.{notEnabled}
 use Rattle.unsolicited.specs.Urc.{gnss, registration}
@@ -18,6 +19,11 @@ use Rattle.trial.specs.Answer.{Said, response, unsolicited}
 pub data Row : Type 0 where
   says : List ℕ → Reading Said → Row
   is : List ℕ → Float → Row
+
+-- line 10 (document 02, CR 3): a version number, whichever of these digits is the last
+abbrev pub anyLast : List ℕ → List Row
+anyLast [] = []
+anyLast (d ∷ ds) = says (bytes "490154203237518" ++ d ∷ []) (read (response (imei (whole 16 true)))) ∷ anyLast ds
 
 -- 0.0 is 0, 100.0 is 25 * 2 ^ 2, and 16777220 is 4194305 * 2 ^ 2
 unfoldable pub rows : List Row
@@ -36,11 +42,11 @@ rows =
     -- 8
     ∷ says (bytes "+HTTPTOFS: 200,x") (read (response (download (record { status = 200; size = 0 }))))
     -- 9, 10
-    ∷ says (bytes "490154203237518") (read (response (imei (record { start = 0; end = 15 }))))
+    ∷ says (bytes "490154203237518") (read (response (imei (whole 15 false))))
     ∷ says (bytes "490154203237517") (refused 3)
-    ∷ says (bytes "4901542032375180") (read (response (imei (record { start = 0; end = 16 }))))
+    ∷ anyLast (bytes "0123456789")
     -- 11
-    ∷ says (bytes "+UGNSINF: 0" ++ replicate 20 44) (read (unsolicited (gnss notEnabled)))
+    ++ says (bytes "+UGNSINF: 0" ++ replicate 20 44) (read (unsolicited (gnss notEnabled)))
     ∷ says (bytes "+UGNSINF: 0" ++ replicate 19 44) (refused 3)
     -- 12
     ∷ says (56 ∷ 195 ∷ 169 ∷ replicate 16 49) (refused 3)

@@ -1,20 +1,20 @@
--- The check digit, digit by digit. Assumes nothing.
+-- The check digit, digit by digit, and each way out of the reader. Assumes nothing.
 use mathlib.Core.Path.{_≡_, refl, ap, sym, _∙_}
 use mathlib.Core.Bool.{Bool, true, false, not, _&&_}
-use mathlib.Core.List.{List, [], _∷_}
-use Prim.Native.Nat.{ℕ, zero, suc, _+_, _-_, _%_, _≤_, _<_}
-use native.Mathlib.Nat.{zero-add}
+use mathlib.Core.List.{List}
+use Prim.Native.Nat.{ℕ, _+_, _-_, _%_, _≤_, _<_}
 use native.Mathlib.Omega.{arith}
-use lib.Dec.{eqb, leb}
+use lib.Dec.{leb}
 use lib.ListN.{length, getD, take, drop, length-take}
-use borrow.Author.Tests.{leb-true, eq-eqb, ne-eqb, not-false}
+use borrow.Author.Tests.{leb-true, eq-eqb, ne-eqb, not-true, not-false}
 use Rattle.text.specs.Bytes.{within, allDigits}
+use Rattle.text.proofs.Ascii.{within-parts}
 use Rattle.text.proofs.AtIndex.{at-next, at-end}
 use Rattle.text.proofs.Tests.{and-left, and-right}
-use Rattle.text.specs.Part.{Span, spanOf, partOf}
-use Rattle.text.specs.Reading.{Reading, read, refused, only}
+use Rattle.text.specs.Part.{partOf}
+use Rattle.text.specs.Reading.{read, refused, only, either}
 use Rattle.text.proofs.Parts.{from-start}
-use Rattle.at_command.specs.Gsn.{doubled, luhn, checkDigit}
+use Rattle.at_command.specs.Gsn.{whole, doubled, luhn, checkDigit, imeiText}
 
 -- a byte of digits is a digit
 module _ (s : List ℕ) (i : ℕ) (inv : allDigits (drop i s) ≡ true) (h : i < length s) where
@@ -50,42 +50,56 @@ module _ (s : List ℕ) (i sum : ℕ) where
       let y : luhn false s ≡ sum = omega arith in
       rw y
 
--- the digits but the last, and the last
-front : (n : ℕ) (s : List ℕ) → allDigits s ≡ true → allDigits (take n s) ≡ true
-front zero s h = refl
-front (suc n) [] h = refl
-front (suc n) (x ∷ s) h = rw (and-left (within 48 57 x) (allDigits s) h) (front n s (and-right (within 48 57 x) (allDigits s) h))
-
-back : (n : ℕ) (s : List ℕ) → allDigits s ≡ true → allDigits (drop n s) ≡ true
-back zero s h = h
-back (suc n) [] h = refl
-back (suc n) (x ∷ s) h = back n s (and-right (within 48 57 x) (allDigits s) h)
-
+-- `from_checked`: of digits,
 module _ (s : List ℕ) (x : Bool) (all : x ≡ allDigits s) (yes : not x ≡ false) where
   digits : allDigits s ≡ true
   digits = sym all ∙ not-false x yes
 
-  pub last-low : 15 ≤ length s → 48 ≤ getD s (length s - 1) 0
-  last-low h = is-low s (length s - 1) (back (length s - 1) s digits) (omega arith)
+  pub last-low : 15 ≤ length s → 48 ≤ getD s 14 0
+  last-low h = is-low s 14 (within-parts 48 57 14 s digits .1) (omega arith)
 
   pub front-digits : (n : ℕ) (t : List ℕ) → t ≡ partOf s 0 n → allDigits t ≡ true
-  front-digits n t q = ap allDigits (q ∙ from-start s n) ∙ front n s digits
+  front-digits n t q = ap allDigits (q ∙ from-start s n) ∙ within-parts 48 57 n s digits .0
 
-pub front-few : (s t : List ℕ) (n : ℕ) → length s ≤ 16 → t ≡ partOf s 0 n → length t ≤ 16
-front-few s t n h q = rw (q, from-start) (omega (arith, length-take n s))
+  -- sixteen digits, whatever they are
+  pub version : length s ≡ 16 → read (whole (length s) true) ≡ imeiText s
+  unfolding imeiText only either
+  version h = rw (digits, h)
 
--- the check digit against the last
-module _ (s t : List ℕ) (k : ℕ) (is : k ≡ checkDigit t) (q : t ≡ partOf s 0 (length s - 1)) where
-  expected : k ≡ checkDigit (take (length s - 1) s)
-  expected = is ∙ ap checkDigit (q ∙ from-start s (length s - 1))
+  -- the check digit of the first fourteen against the fifteenth
+  module _ (low : 15 ≤ length s) (high : length s ≤ 16) (fewer : length s ≡ 16 → ⊥) (t : List ℕ) (k : ℕ) (is : k ≡ checkDigit t) (q : t ≡ partOf s 0 14) where
+    fifteen : length s ≡ 15
+    fifteen = omega arith
 
-  pub last-other : (r : Reading Span) → (getD s (length s - 1) 0 - 48 ≡ k → ⊥) → refused 3 ≡ only (eqb (getD s (length s - 1) 0 - 48) (checkDigit (take (length s - 1) s))) r
-  unfolding only
-  last-other r n = rw (sym expected, ne-eqb _ _ n)
+    expected : k ≡ checkDigit (take 14 s)
+    expected = is ∙ ap checkDigit (q ∙ from-start s 14)
 
-  pub last-same : (r p : Reading Span) → getD s (length s - 1) 0 - 48 ≡ k → p ≡ r → p ≡ only (eqb (getD s (length s - 1) 0 - 48) (checkDigit (take (length s - 1) s))) r
-  unfolding only
-  last-same r p e h = rw (sym expected, eq-eqb _ _ e) h
+    pub last-other : (getD s 14 0 - 48 ≡ k → ⊥) → refused 3 ≡ imeiText s
+    unfolding imeiText only either
+    last-other n = rw (digits, fifteen, sym expected, ne-eqb _ _ n)
 
-pub whole : (s : List ℕ) → _≡_ {A = Reading Span} (read (record { start = 0; end = length s })) (read (spanOf 0 s))
-whole s = rw zero-add
+    pub last-same : getD s 14 0 - 48 ≡ k → read (whole (length s) false) ≡ imeiText s
+    unfolding imeiText only either
+    last-same e = rw (digits, fifteen, sym expected, eq-eqb _ _ e)
+
+pub front-few : (s t : List ℕ) → t ≡ partOf s 0 14 → length t ≤ 14
+front-few s t q = rw (q, from-start) (omega (arith, length-take 14 s))
+
+-- no other length is a number
+pub other-count : (s : List ℕ) → (length s ≡ 15 → ⊥) → (length s ≡ 16 → ⊥) → refused 3 ≡ imeiText s
+unfolding imeiText only either
+other-count s f g = rw (ne-eqb _ _ f, ne-eqb _ _ g) (go (allDigits s))
+  where
+    go : (t : Bool) → refused 3 ≡ either (t && false) (read (whole (length s) false)) (only (t && false) (read (whole (length s) true)))
+    go true = refl
+    go false = refl
+
+pub fewer-digits : (s : List ℕ) → length s < 15 → refused 3 ≡ imeiText s
+fewer-digits s h = other-count s (λ e. omega arith) (λ e. omega arith)
+
+pub more-digits : (s : List ℕ) → 16 < length s → refused 3 ≡ imeiText s
+more-digits s h = other-count s (λ e. omega arith) (λ e. omega arith)
+
+pub other-bytes : (s : List ℕ) (x : Bool) → x ≡ allDigits s → not x ≡ true → refused 3 ≡ imeiText s
+unfolding imeiText only either
+other-bytes s x e h = let z : allDigits s ≡ false = sym e ∙ not-true x h in rw z

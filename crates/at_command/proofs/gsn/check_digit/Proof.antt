@@ -11,7 +11,7 @@ use native.Mathlib.Omega.{arith}
 use Rattle.at_command.proofs.gsn.Laws.{is-low, is-high, digits-on, luhn-odd, luhn-even, luhn-end}
 
 abbrev Inv-loop : tie.InvT-loop
-Inv-loop s sum₀ odd₀ i₀ sum odd i = (allDigits (drop i s) ≡ true) × (i ≤ length s) × (sum ≤ 9 * i) × (length s ≤ 16) × (luhn false s ≡ sum + luhn odd (drop i s))
+Inv-loop s sum₀ odd₀ i₀ sum odd i = (allDigits (drop i s) ≡ true) × (i ≤ length s) × (sum ≤ 9 * i) × (length s ≤ 14) × (luhn false s ≡ sum + luhn odd (drop i s))
 
 abbrev μ-loop : tie.MeasureT-loop
 μ-loop s sum₀ odd₀ i₀ sum odd i = length s - i

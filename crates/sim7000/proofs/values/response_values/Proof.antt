@@ -46,6 +46,6 @@ response-values-spec =
     (λ c. rw (c .before .before .code6 .given .1) (c .operator-values .ensures))
     (λ c. rw (c .before .before .code7 .given .1) (c .time-values .ensures))
     (λ c. rw (c .before .before .code8 .given .1) (c .download-values .ensures))
-    (λ c. rw (c .before .before .code9 .given .1) (c .place-values .ensures))
+    (λ c. rw (c .before .before .code9 .given .1) (c .imei-values .ensures))
     (λ c. rw (c .before .before .before .code10 .given .1) (filled _ _ _ _ _ _ (c .row4 .ensures) _ _ _ _ _ (c .before .message-format .ensures) refl refl refl refl))
-    (λ c. rw (c .before .before .code11 .given .1) (c .place-values2 .ensures)))
+    (λ c. rw (c .before .before .code11 .given .1) (c .place-values .ensures)))
