@@ -254,7 +254,7 @@ static void timed(const struct lines *l, work *const *sides, size_t count, doubl
     }
 }
 
-static void lines_bench(const struct lines *l)
+static void lines_bench(const char *name, const struct lines *l)
 {
     size_t len, accepted = 0;
     for (size_t i = 0; i < l->count; i++) {
@@ -271,10 +271,26 @@ static void lines_bench(const struct lines *l)
     if (sums[0] != sums[1] || sums[0] != sums[2])
         fail("the sums of the lines differ");
     double n = (double)l->count * 1e-6;
-    printf("lines: %zu, of which %zu are accepted, %zu bytes\n", l->count, accepted, l->size - l->count);
+    printf("%s: %zu, of which %zu are accepted, %zu bytes\n", name, l->count, accepted, l->size - l->count);
     printf("  the Rust, both trials          %8.2f million lines a second\n", n / best[0]);
     printf("  sim7000_read_line              %8.2f million lines a second, %.2f times the Rust's\n", n / best[1], best[0] / best[1]);
     printf("  sim7000_sort_line              %8.2f million lines a second, %.2f times the Rust's\n", n / best[2], best[0] / best[2]);
+}
+
+/* The fixes among the lines: +UGNSINF alone reads numerals, up to eight to a fix. */
+static struct lines fixes_of(const struct lines *l)
+{
+    uint8_t *bytes = malloc(l->size);
+    uint64_t values[SIM7000_VALUES];
+    size_t n = 0, len;
+    for (size_t i = 0; i < l->count; i++) {
+        const uint8_t *line = line_at(l, i, &len);
+        if (sim7000_read_line(line, len, values) == 0 && values[0] == SIM7000_GNSS_REPORT && values[1] == 2) {
+            memcpy(bytes + n, line, len + 1);
+            n += len + 1;
+        }
+    }
+    return lines_of(bytes, n);
 }
 
 static void told_feed(const char *name, double took, double readers, double plain, double bytes)
@@ -475,7 +491,9 @@ int main(int argc, char **argv)
         fail("usage: bench LINES REQUESTS");
     struct lines mixed = read_file(argv[1]), requests = read_file(argv[2]);
     struct lines mixed_wire = framed(&mixed), even = noise(100000, 32), even_wire = framed(&even);
-    lines_bench(&mixed);
+    struct lines fixes = fixes_of(&mixed);
+    lines_bench("lines", &mixed);
+    lines_bench("numerals, the fixes among these lines", &fixes);
     feed_bench("lines of 32 bytes", &even, &even_wire);
     feed_bench("the mixed lines", &mixed, &mixed_wire);
     commands_bench(&requests);

@@ -2,6 +2,7 @@
 use crate::request::Encoded;
 use crate::write;
 use text::bytes;
+use text::digit;
 use text::handed;
 use text::handed::LineText;
 use text::handed::TextAt;
@@ -48,7 +49,7 @@ fn check_digit(s: &[u8]) -> u8
     let mut odd = false;
     let mut i = 0;
     while i < s.len() {
-        let d = s[i] - 48;
+        let d = digit::worth(s[i]);
         if odd {
             sum += double(d);
             odd = false;
@@ -82,7 +83,7 @@ impl Imei {
                 is_version_number: true,
             });
         }
-        let last = line[14] - 48;
+        let last = digit::worth(line[14]);
         if last != check_digit(part::part(line, 0, 14)) {
             return ImeiAnswer::Refused(3);
         }

@@ -1,6 +1,6 @@
 -- What is still to be said of a numeral when some of its bytes were read: `rest` of the bytes that follow. One law for each turn of the loop, and for each way out.
-use mathlib.Core.Path.{_≡_, refl, sym}
-use mathlib.Core.Bool.{Bool, true, false, cond}
+use mathlib.Core.Path.{_≡_, refl, sym, _∙_}
+use mathlib.Core.Bool.{Bool, true, false, cond, not}
 use mathlib.Core.List.{List, [], _∷_, _++_}
 use mathlib.Core.Option.{Option, none, some}
 use Prim.Native.Nat.{ℕ, suc, _+_, _-_, _*_, _^_, _≤_, _<_}
@@ -9,13 +9,15 @@ use native.Mathlib.Numerals.{add-one}
 use native.Mathlib.Omega.{arith}
 use lib.Dec.{ltb}
 use lib.ListN.{length, drop, getD, drop-of-length-le, length-drop}
-use borrow.Author.Tests.{ne-eqb, lt-ltb, le-ltb, le-leb, lt-leb, ltb-false}
+use borrow.Author.Tests.{ne-eqb, lt-ltb, le-ltb, le-leb, lt-leb, ltb-false, not-true, not-false}
 use Rattle.text.specs.Bytes.{within}
+use Rattle.text.specs.Digit.{isDigit, aboveZero}
 use Rattle.text.specs.Part.{before, after}
 use Rattle.text.specs.Number.{digitValue, below, prefixed, digitsOf, valueOf}
 use Rattle.text.proofs.AtIndex.{at-next}
 use Rattle.numeral.specs.Numeral.{Decimal, point, decimal, behindSign}
 use Rattle.text.proofs.Digits.{decimal-is, decimal-not, one-more}
+use Rattle.text.proofs.Told.{difference}
 
 -- ---- k digits make the number a; those that follow make the decimal with them, p places behind the point
 
@@ -100,18 +102,17 @@ module _ (s : List ℕ) (start : ℕ) (n : Bool) (a k back i : ℕ) (inv : Loop 
         ≡ joined n a k (places (ltb back (length s)) (length s - back) (drop (i + 1) s)) (prefixed o (digitsOf 10 (digits (ltb back (length s)) (drop (i + 1) s))))
     other e o v = rw (inv, at-next s i h, no-point n a k (length s - back) (getD s i 0) (drop (i + 1) s) (ltb back (length s)) e, v)
 
-    pub low : (getD s i 0 ≡ 46 → ⊥) → getD s i 0 < 48 → none ≡ behindSign n (drop start s)
-    low e l = sym (other e none (decimal-not (getD s i 0) (rw (lt-leb 48 (getD s i 0) l))))
-
-    pub high : (getD s i 0 ≡ 46 → ⊥) → 48 ≤ getD s i 0 → 57 < getD s i 0 → none ≡ behindSign n (drop start s)
-    high e g l = sym (other e none (decimal-not (getD s i 0) (rw (le-leb 48 (getD s i 0) g, lt-leb (getD s i 0) 57 l))))
+    pub no-digit : (t : Bool) → t ≡ isDigit (getD s i 0) → (getD s i 0 ≡ 46 → ⊥) → not t ≡ true → none ≡ behindSign n (drop start s)
+    no-digit t told e f = sym (other e none (decimal-not (getD s i 0) (sym told ∙ not-true t f)))
 
     pub many : (getD s i 0 ≡ 46 → ⊥) → 15 ≤ k → none ≡ behindSign n (drop start s)
     many e l = rw (other e (below 10 (digitValue (getD s i 0))) refl, joined-many)
 
-    pub digit : (getD s i 0 ≡ 46 → ⊥) → 48 ≤ getD s i 0 → getD s i 0 ≤ 57 → Loop s start n (a * 10 + (getD s i 0 - 48)) (k + 1) back (i + 1)
+    pub digit : (t : Bool) (v : ℕ) → t ≡ isDigit (getD s i 0) → v ≡ aboveZero (getD s i 0) → (getD s i 0 ≡ 46 → ⊥) → not t ≡ false → Loop s start n (a * 10 + v) (k + 1) back (i + 1)
     unfolding rest
-    digit e g l = rw (other e (some (getD s i 0 - 48)) (decimal-is (getD s i 0) g l), joined-digit)
+    digit t v told worth e f =
+        let is : isDigit (getD s i 0) ≡ true = sym told ∙ not-false t f in
+        rw (worth, difference (getD s i 0) is, other e (some (getD s i 0 - 48)) (decimal-is (getD s i 0) is), joined-digit)
 
   module _ (h : length s ≤ i) where
     pub no-digits : k ≡ 0 → none ≡ behindSign n (drop start s)

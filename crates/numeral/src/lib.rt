@@ -1,5 +1,6 @@
 // A desk numeral, read as the nearest f32. The quotient of its digits by a power of ten is formed in whole numbers: the counts of leading
 // zero bits of the two fix the exponent, two divisions give 24 binary digits, and the remainder rounds them.
+use text::digit;
 ghost use mathlib.Core.Path.{_≡_};
 ghost use mathlib.Core.Bool.{Bool, cond};
 ghost use Prim.Native.Nat.{_+_, _*_, _^_, _≤_, _<_};
@@ -132,16 +133,13 @@ fn digits_from(s: &[u8], start: usize, negative: bool) -> Scanned
             back = i + 1;
             i += 1;
         } else {
-            if c < b'0' {
-                return Scanned::Not;
-            }
-            if b'9' < c {
+            if !digit::is_ascii_digit(c) {
                 return Scanned::Not;
             }
             if 15 <= count {
                 return Scanned::Not;
             }
-            m = m * 10 + (c - b'0') as u64;
+            m = m * 10 + digit::worth(c) as u64;
             count += 1;
             i += 1;
         }

@@ -11,8 +11,11 @@ use lib.ListN.{length, getD, drop}
 use lib.Dec.{leb, ltb}
 use borrow.Author.Tests.{lt-ltb, le-ltb, le-leb, lt-leb, ltb-false, leb-true}
 use Rattle.text.specs.Bytes.{within}
+use Rattle.text.specs.Digit.{isDigit, aboveZero}
 use Rattle.text.specs.Number.{digitValue, below, prefixed, digitsOf, valueOf, upTo, worth, magnitude}
 use Rattle.text.proofs.AtIndex.{at-next, at-end}
+use Rattle.text.proofs.Tests.{never}
+use Rattle.text.proofs.Told.{digit-high, difference}
 
 -- `digit_value`
 module _ (x : ℕ) where
@@ -27,9 +30,11 @@ module _ (x : ℕ) where
       by true false h k = refl
       by false b h k = refl
 
-  pub digit-09 : 48 ≤ x → x ≤ 57 → below 16 (some (x - 48)) ≡ digitValue x
+  pub digit-09 : (r : ℕ) (t : Bool) → t ≡ isDigit x → t ≡ true → r ≡ aboveZero x → below 16 (some r) ≡ digitValue x
   unfolding digitValue
-  digit-09 h k = rw (in-range 48 57 h k, lt-ltb (x - 48) 16 (omega arith))
+  digit-09 r t told h e =
+      let is : isDigit x ≡ true = sym told ∙ h in
+      rw (is, e, difference x is, lt-ltb (x - 48) 16 (omega (arith, digit-high x is)))
 
   pub digit-AF : 65 ≤ x → x ≤ 70 → below 16 (some (x - 55)) ≡ digitValue x
   unfolding digitValue
@@ -38,6 +43,9 @@ module _ (x : ℕ) where
   pub digit-af : 97 ≤ x → x ≤ 102 → below 16 (some (x - 87)) ≡ digitValue x
   unfolding digitValue
   digit-af h k = rw (off-range 48 57 (λ a b. omega arith), off-range 65 70 (λ a b. omega arith), in-range 97 102 h k, lt-ltb (x - 87) 16 (omega arith))
+
+  pub no-digit-09 : (t : Bool) → t ≡ isDigit x → t ≡ false → 48 ≤ x → x ≤ 57 → ⊥
+  no-digit-09 t told n h k = let e : false ≡ true = sym n ∙ told ∙ in-range 48 57 h k in never (cc)
 
   pub no-digit : (48 ≤ x → x ≤ 57 → ⊥) → (65 ≤ x → x ≤ 70 → ⊥) → (97 ≤ x → x ≤ 102 → ⊥) → none ≡ digitValue x
   unfolding digitValue
@@ -52,8 +60,9 @@ digit-in : (base r x : ℕ) → base ≤ 16 → below 16 (some r) ≡ digitValue
 digit-in base r x h e = rw (sym e) (below-16 base r (ltb r 16) refl h)
 
 -- the digits of base 10: which bytes they are, and what each is worth
-pub decimal-is : (x : ℕ) → 48 ≤ x → x ≤ 57 → below 10 (digitValue x) ≡ some (x - 48)
-decimal-is x h k = digit-in 10 (x - 48) x (omega arith) (digit-09 x h k) ∙ rw (lt-ltb (x - 48) 10 (omega arith))
+pub decimal-is : (x : ℕ) → isDigit x ≡ true → below 10 (digitValue x) ≡ some (x - 48)
+unfolding digitValue
+decimal-is x is = rw (is, lt-ltb (x - 48) 10 (omega (arith, digit-high x is)))
 
 no-letter : (lo hi k x : ℕ) (o : Option ℕ) → k + 10 ≤ lo → below 10 o ≡ none → below 10 (cond (within lo hi x) (some (x - k)) o) ≡ none
 no-letter lo hi k x o h e = go (leb lo x) (leb x hi) (leb-true lo x)
@@ -63,7 +72,7 @@ no-letter lo hi k x o h e = go (leb lo x) (leb x hi) (leb-true lo x)
     go true false l = e
     go false b l = e
 
-pub decimal-not : (x : ℕ) → within 48 57 x ≡ false → below 10 (digitValue x) ≡ none
+pub decimal-not : (x : ℕ) → isDigit x ≡ false → below 10 (digitValue x) ≡ none
 unfolding digitValue
 decimal-not x e = rw e (no-letter 65 70 55 x _ (omega arith) (no-letter 97 102 87 x none (omega arith) refl))
 

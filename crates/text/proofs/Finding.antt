@@ -1,14 +1,14 @@
 -- Where a byte stands in a line, and what it begins and ends with: one law for each turn and each exit of the loops that look for it. Assumes nothing.
-use mathlib.Core.Path.{_≡_, refl, sym}
-use mathlib.Core.Bool.{Bool, true, false, _&&_, and-false}
+use mathlib.Core.Path.{_≡_, refl, sym, _∙_}
+use mathlib.Core.Bool.{Bool, true, false, not, and-false}
 use mathlib.Core.List.{List, [], _∷_}
 use Prim.Native.Nat.{ℕ, suc, _+_, _-_, _≤_, _<_}
 use native.Mathlib.Nat.{add-zero}
 use native.Mathlib.Omega.{arith}
 use lib.ListN.{length, getD, drop, length-drop}
 use lib.Dec.{eqb, ltb}
-use borrow.Author.Tests.{eq-eqb, ne-eqb, lt-leb, le-leb}
-use Rattle.text.specs.Bytes.{startsWith, same, endsWith, indexOf, countOf, has, allWithin}
+use borrow.Author.Tests.{eq-eqb, ne-eqb, lt-leb, le-leb, not-true, not-false}
+use Rattle.text.specs.Bytes.{startsWith, same, endsWith, indexOf, countOf, has, within, allWithin}
 use Rattle.text.proofs.AtIndex.{at-next, at-end}
 
 -- `find`
@@ -47,16 +47,29 @@ module _ (s : List ℕ) (b i n : ℕ) (inv : n + countOf b (drop i s) ≡ countO
   pub count-end : length s ≤ i → n ≡ countOf b s
   count-end h = let z : countOf b (drop i s) ≡ 0 = rw (at-end s i h) in omega arith
 
--- `all_within`
+-- `all_within`, and `all_digits` with the answer x of its test
 module _ (s : List ℕ) (lo hi i : ℕ) (inv : allWithin lo hi s ≡ allWithin lo hi (drop i s)) where
-  pub within-low : i < length s → getD s i 0 < lo → false ≡ allWithin lo hi s
-  within-low h k = rw (inv, at-next s i h, lt-leb _ _ k)
+  module _ (h : i < length s) where
+    within-out : within lo hi (getD s i 0) ≡ false → false ≡ allWithin lo hi s
+    within-out e = rw (inv, at-next s i h, e)
 
-  pub within-high : i < length s → lo ≤ getD s i 0 → hi < getD s i 0 → false ≡ allWithin lo hi s
-  within-high h l k = rw (inv, at-next s i h, le-leb _ _ l, lt-leb _ _ k)
+    within-next : within lo hi (getD s i 0) ≡ true → allWithin lo hi s ≡ allWithin lo hi (drop (i + 1) s)
+    within-next e = rw (inv, at-next s i h, e)
 
-  pub within-more : i < length s → lo ≤ getD s i 0 → getD s i 0 ≤ hi → allWithin lo hi s ≡ allWithin lo hi (drop (i + 1) s)
-  within-more h l k = rw (inv, at-next s i h, le-leb _ _ l, le-leb _ _ k)
+    pub within-low : getD s i 0 < lo → false ≡ allWithin lo hi s
+    within-low k = within-out (rw (lt-leb _ _ k))
+
+    pub within-high : lo ≤ getD s i 0 → hi < getD s i 0 → false ≡ allWithin lo hi s
+    within-high l k = within-out (rw (le-leb _ _ l, lt-leb _ _ k))
+
+    pub within-more : lo ≤ getD s i 0 → getD s i 0 ≤ hi → allWithin lo hi s ≡ allWithin lo hi (drop (i + 1) s)
+    within-more l k = within-next (rw (le-leb _ _ l, le-leb _ _ k))
+
+    pub told-out : (x : Bool) → x ≡ within lo hi (getD s i 0) → not x ≡ true → false ≡ allWithin lo hi s
+    told-out x is k = within-out (sym is ∙ not-true x k)
+
+    pub told-more : (x : Bool) → x ≡ within lo hi (getD s i 0) → not x ≡ false → allWithin lo hi s ≡ allWithin lo hi (drop (i + 1) s)
+    told-more x is k = within-next (sym is ∙ not-false x k)
 
   pub within-end : length s ≤ i → true ≡ allWithin lo hi s
   within-end h = rw (inv, at-end s i h)

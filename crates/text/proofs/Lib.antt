@@ -21,6 +21,7 @@ pub mod Readings
 pub mod Signs
 pub mod SplitsOnce
 pub mod Tests
+pub mod Told
 pub mod Trims
 pub mod Utf8Cuts
 pub mod Utf8Grammar

@@ -1,6 +1,7 @@
 pub mod Bytes
 pub mod Code
 pub mod Copy
+pub mod Digit
 pub mod Field
 pub mod Gives
 pub mod Handed

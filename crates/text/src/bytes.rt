@@ -1,4 +1,5 @@
 // Tests on a line's bytes, and where a byte stands.
+use crate::digit;
 ghost use mathlib.Core.Path.{_≡_};
 ghost use Prim.Native.Nat.{_+_, _≤_};
 ghost use lib.ListN.{length, drop};
@@ -110,5 +111,12 @@ pub fn all_within(s: &[u8], lo: u8, hi: u8) -> bool
 pub fn all_digits(s: &[u8]) -> bool
     ensures { λ r. ⌜ Gives (allDigits (now (s .entry))) r ⌝ }
 {
-    all_within(s, 48, 57)
+    let mut i = 0;
+    while i < s.len() {
+        if !digit::is_ascii_digit(s[i]) {
+            return false;
+        }
+        i += 1;
+    }
+    true
 }

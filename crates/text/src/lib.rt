@@ -2,6 +2,7 @@
 pub mod bytes;
 pub mod code;
 pub mod copy;
+pub mod digit;
 pub mod field;
 pub mod handed;
 pub mod line;

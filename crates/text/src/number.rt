@@ -1,4 +1,5 @@
 // Whole numbers, one reader per width over one reader of digits.
+use crate::digit;
 ghost use mathlib.Core.Path.{_≡_};
 ghost use mathlib.Core.Option.{some};
 ghost use Prim.Native.Nat.{_≤_};
@@ -36,8 +37,10 @@ pub enum ParsedI32 {
 fn digit_value(x: u8) -> u8
     ensures { λ r. ⌜ below 16 (some r) ≡ digitValue x ⌝ }
 {
+    if digit::is_ascii_digit(x) {
+        return digit::worth(x);
+    }
     match x {
-        b'0'..=b'9' => x - 48,
         b'A'..=b'F' => x - 55,
         b'a'..=b'f' => x - 87,
         _ => 16,

@@ -4,6 +4,7 @@ use libc::STDIN_FILENO;
 use libc::STDOUT_FILENO;
 use numeral::Numeral;
 use text::bytes;
+use text::digit;
 use text::field;
 use text::number;
 use text::number::ParsedI32;
@@ -128,8 +129,10 @@ fn answer(kind: &[u8], s: &[u8]) {
 fn nibble(x: u8) -> u8
     ensures { λ r. ⌜ r ≤ 15 ⌝ }
 {
+    if digit::is_ascii_digit(x) {
+        return digit::worth(x);
+    }
     match x {
-        b'0'..=b'9' => x - 48,
         b'a'..=b'f' => x - 87,
         _ => 0,
     }

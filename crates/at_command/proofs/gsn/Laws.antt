@@ -4,13 +4,15 @@ use mathlib.Core.Bool.{Bool, true, false, not, _&&_}
 use mathlib.Core.List.{List}
 use Prim.Native.Nat.{ℕ, _+_, _-_, _%_, _≤_, _<_}
 use native.Mathlib.Omega.{arith}
-use lib.Dec.{leb}
 use lib.ListN.{length, getD, take, drop, length-take}
-use borrow.Author.Tests.{leb-true, eq-eqb, ne-eqb, not-true, not-false}
-use Rattle.text.specs.Bytes.{within, allDigits}
+use borrow.Author.Tests.{eq-eqb, ne-eqb, not-true, not-false}
+use Rattle.text.specs.Bytes.{allDigits}
+use Rattle.text.specs.Digit.{isDigit, aboveZero}
 use Rattle.text.proofs.Ascii.{within-parts}
 use Rattle.text.proofs.AtIndex.{at-next, at-end}
 use Rattle.text.proofs.Tests.{and-left, and-right}
+use Rattle.text.proofs.Told.{difference}
+use Rattle.text.proofs.Told.{to-nine as told-nine}
 use Rattle.text.specs.Part.{partOf}
 use Rattle.text.specs.Reading.{read, refused, only, either}
 use Rattle.text.proofs.Parts.{from-start}
@@ -18,31 +20,33 @@ use Rattle.at_command.specs.Gsn.{whole, doubled, luhn, checkDigit, imeiT
 
 -- a byte of digits is a digit
 module _ (s : List ℕ) (i : ℕ) (inv : allDigits (drop i s) ≡ true) (h : i < length s) where
-  split : within 48 57 (getD s i 0) && allDigits (drop (i + 1) s) ≡ true
+  split : isDigit (getD s i 0) && allDigits (drop (i + 1) s) ≡ true
   split = ap allDigits (sym (at-next s i h)) ∙ inv
 
-  pub is-low : 48 ≤ getD s i 0
-  is-low = leb-true 48 (getD s i 0) (and-left (leb 48 (getD s i 0)) (leb (getD s i 0) 57) (and-left (within 48 57 (getD s i 0)) _ split))
+  is-digit : isDigit (getD s i 0) ≡ true
+  is-digit = and-left (isDigit (getD s i 0)) _ split
 
-  pub is-high : getD s i 0 ≤ 57
-  is-high = leb-true (getD s i 0) 57 (and-right (leb 48 (getD s i 0)) (leb (getD s i 0) 57) (and-left (within 48 57 (getD s i 0)) _ split))
+  digit-is : (d : ℕ) → d ≡ aboveZero (getD s i 0) → d ≡ getD s i 0 - 48
+  digit-is d e = e ∙ difference (getD s i 0) is-digit
+
+  pub to-nine : (d : ℕ) → d ≡ aboveZero (getD s i 0) → d ≤ 9
+  to-nine d e = rw e (told-nine (getD s i 0) is-digit)
 
   pub digits-on : allDigits (drop (i + 1) s) ≡ true
-  digits-on = and-right (within 48 57 (getD s i 0)) _ split
+  digits-on = and-right (isDigit (getD s i 0)) _ split
 
 -- `check_digit`
 module _ (s : List ℕ) (i sum : ℕ) where
-  pub luhn-odd : (odd : Bool) (d : ℕ) → luhn false s ≡ sum + luhn odd (drop i s) → i < length s → odd ≡ true → d ≡ doubled (getD s i 0 - 48)
-      → luhn false s ≡ (sum + d) + luhn false (drop (i + 1) s)
-  luhn-odd odd d inv h e q =
-      let z : luhn odd (drop i s) ≡ doubled (getD s i 0 - 48) + luhn false (drop (i + 1) s) = rw (e, at-next s i h) in
-      omega arith
+  module _ (odd : Bool) (v : ℕ) (all : allDigits (drop i s) ≡ true) (h : i < length s) (worth : v ≡ aboveZero (getD s i 0)) (inv : luhn false s ≡ sum + luhn odd (drop i s)) where
+    pub luhn-odd : (d : ℕ) → odd ≡ true → d ≡ doubled v → luhn false s ≡ (sum + d) + luhn false (drop (i + 1) s)
+    luhn-odd d e q =
+        let z : luhn odd (drop i s) ≡ doubled v + luhn false (drop (i + 1) s) = rw (e, at-next s i h, digit-is s i all h v worth) in
+        omega arith
 
-  pub luhn-even : (odd : Bool) → luhn false s ≡ sum + luhn odd (drop i s) → i < length s → odd ≡ false
-      → luhn false s ≡ (sum + (getD s i 0 - 48)) + luhn true (drop (i + 1) s)
-  luhn-even odd inv h e =
-      let z : luhn odd (drop i s) ≡ (getD s i 0 - 48) + luhn true (drop (i + 1) s) = rw (e, at-next s i h) in
-      omega arith
+    pub luhn-even : odd ≡ false → luhn false s ≡ (sum + v) + luhn true (drop (i + 1) s)
+    luhn-even e =
+        let z : luhn odd (drop i s) ≡ v + luhn true (drop (i + 1) s) = rw (e, at-next s i h, digit-is s i all h v worth) in
+        omega arith
 
   pub luhn-end : (odd : Bool) → luhn false s ≡ sum + luhn odd (drop i s) → length s ≤ i → (10 - sum % 10) % 10 ≡ checkDigit s
   luhn-end odd inv h =
@@ -54,9 +58,6 @@ module _ (s : List ℕ) (i sum : ℕ) where
 module _ (s : List ℕ) (x : Bool) (all : x ≡ allDigits s) (yes : not x ≡ false) where
   digits : allDigits s ≡ true
   digits = sym all ∙ not-false x yes
-
-  pub last-low : 15 ≤ length s → 48 ≤ getD s 14 0
-  last-low h = is-low s 14 (within-parts 48 57 14 s digits .1) (omega arith)
 
   pub front-digits : (n : ℕ) (t : List ℕ) → t ≡ partOf s 0 n → allDigits t ≡ true
   front-digits n t q = ap allDigits (q ∙ from-start s n) ∙ within-parts 48 57 n s digits .0
@@ -74,13 +75,17 @@ module _ (s : List ℕ) (x : Bool) (all : x ≡ allDigits s) (yes : not x ≡ fa
     expected : k ≡ checkDigit (take 14 s)
     expected = is ∙ ap checkDigit (q ∙ from-start s 14)
 
-    pub last-other : (getD s 14 0 - 48 ≡ k → ⊥) → refused 3 ≡ imeiText s
-    unfolding imeiText only either
-    last-other n = rw (digits, fifteen, sym expected, ne-eqb _ _ n)
+    module _ (v : ℕ) (worth : v ≡ aboveZero (getD s 14 0)) where
+      last : v ≡ getD s 14 0 - 48
+      last = digit-is s 14 (within-parts 48 57 14 s digits .1) (omega arith) v worth
 
-    pub last-same : getD s 14 0 - 48 ≡ k → read (whole (length s) false) ≡ imeiText s
-    unfolding imeiText only either
-    last-same e = rw (digits, fifteen, sym expected, eq-eqb _ _ e)
+      pub last-other : (v ≡ k → ⊥) → refused 3 ≡ imeiText s
+      unfolding imeiText only either
+      last-other n = rw (digits, fifteen, sym last, sym expected, ne-eqb _ _ n)
+
+      pub last-same : v ≡ k → read (whole (length s) false) ≡ imeiText s
+      unfolding imeiText only either
+      last-same e = rw (digits, fifteen, sym last, sym expected, eq-eqb _ _ e)
 
 pub front-few : (s t : List ℕ) → t ≡ partOf s 0 14 → length t ≤ 14
 front-few s t q = rw (q, from-start) (omega (arith, length-take 14 s))
