@@ -4,15 +4,14 @@ use mathlib.Core.Bool.{Bool, true}
 use mathlib.Core.List.{List, [], _∷_, _++_}
 use Prim.Native.Nat.{ℕ, _-_, _≤_, _<_}
 use native.Mathlib.Omega.{arith}
-use lib.Dec.{leb}
 use lib.ListN.{length, drop, getD, replicate, length-take}
-use borrow.Author.Tests.{leb-true}
-use Rattle.text.specs.Bytes.{bytes, within, endsWith, allDigits}
+use Rattle.text.specs.Bytes.{bytes, endsWith, allDigits}
+use Rattle.text.specs.Digit.{isDigit}
 use Rattle.text.specs.Part.{trimEnd}
 use Rattle.text.specs.Reading.{Reading, read, refused, mapped, firstOf}
 use Rattle.text.proofs.Ascii.{within-parts}
 use Rattle.text.proofs.Begins.{begins-with, begins-same}
-use Rattle.text.proofs.Tests.{never, and-left}
+use Rattle.text.proofs.Tests.{never, and-left, at-least}
 use Rattle.text.proofs.Trims.{end-take}
 use Rattle.text.proofs.Yields.{Yields, yields-only, yields-either, yields-sized}
 use Rattle.at_command.specs.Ccid.{cardText, iccidText}
@@ -23,7 +22,7 @@ use Rattle.at_command.proofs.NoResponse.{Wordless, Refuses, but-imei}
 
 -- the line begins with a digit
 abbrev digitFirst : List ℕ → Bool
-digitFirst l = within 48 57 (getD l 0 0)
+digitFirst l = isDigit (getD l 0 0)
 
 digit-wordless : Wordless digitFirst
 digit-wordless =
@@ -31,7 +30,7 @@ digit-wordless =
 
 first-digit : (l : List ℕ) → 0 < length l → allDigits l ≡ true → digitFirst l ≡ true
 first-digit [] h e = absurd (omega arith)
-first-digit (x ∷ l) h e = and-left (within 48 57 x) (allDigits l) e
+first-digit (x ∷ l) h e = and-left (isDigit x) (allDigits l) e
 
 module _ (l : List ℕ) (all : allDigits l ≡ true) where
   close-no : Refuses (closeText l)
@@ -47,7 +46,7 @@ module _ (l : List ℕ) (all : allDigits l ≡ true) where
   iccid-no h =
       let t = trimEnd (bytes "fF") l in
       yields-sized _ _ 19 20 t _ refl (λ e.
-      let low = leb-true 19 (length t) (and-left (leb 19 (length t)) _ e) in
+      let low = at-least 19 20 (length t) e in
       let few = sym (ap length (end-take (bytes "fF") l)) ∙ length-take (length t) l in
       absurd (omega arith))
 

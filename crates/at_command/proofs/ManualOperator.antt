@@ -5,14 +5,14 @@ use mathlib.Core.Logic.{_⊎_, inl, inr, ⊎-elim}
 use mathlib.Core.Bool.{true, false}
 use mathlib.Core.List.{List, _++_, append-assoc}
 use native.Mathlib.Omega.{arith}
-use lib.Dec.{leb, ltb}
+use lib.Dec.{ltb}
 use lib.ListN.{length, drop}
 use lib.Seq.{take-append-seam}
-use borrow.Author.Tests.{leb-true, ltb-true, ltb-false, not-false}
+use borrow.Author.Tests.{ltb-true, ltb-false, not-false}
 use Rattle.text.specs.Bytes.{bytes, within, allDigits}
 use Rattle.text.specs.Reading.{Reading, read, refused, mapped}
 use Rattle.text.proofs.Ascii.{within-free, digits-printable}
-use Rattle.text.proofs.Tests.{never, both, neither, and-left, and-right}
+use Rattle.text.proofs.Tests.{never, both, neither, and-left, and-right, at-least, at-most}
 use Rattle.text.proofs.Yields.{Yields, yields-cond}
 use Rattle.at_command.specs.Request.{setManualOperator, commandOf, operatorNumber, fitting, encodeReading, written}
 use Rattle.at_command.specs.ManualOperator.{OperatorCommand, OperatorAnswer, OperatorsWritten, OperatorsAnswered}
@@ -20,8 +20,8 @@ use Rattle.at_command.proofs.Commands.{encode-gives}
 
 five-or-six : (n : ℕ) → within 5 6 n ≡ true → (n ≡ 5) ⊎ (n ≡ 6)
 five-or-six n e =
-    let low = leb-true 5 n (and-left (leb 5 n) _ e) in
-    let high = leb-true n 6 (and-right (leb 5 n) _ e) in
+    let low = at-least 5 6 n e in
+    let high = at-most 5 6 n e in
     ⊎-elim (λ f. let l = ltb-true n 6 f in inl (omega arith)) (λ f. let l = ltb-false n 6 f in inr (omega arith)) (both (ltb n 6))
 
 command-is : (plmn : List ℕ) → operatorNumber plmn ≡ true → OperatorCommand plmn (commandOf (setManualOperator plmn))

@@ -5,16 +5,17 @@ use mathlib.Core.List.{List, [], _∷_, _++_}
 use mathlib.Core.Option.{none}
 use Prim.Native.Nat.{ℕ, zero, suc, _-_}
 use native.Mathlib.Omega.{arith}
-use lib.Dec.{eqb, leb}
+use lib.Dec.{eqb}
 use lib.ListN.{length, take, getD, replicate}
-use borrow.Author.Tests.{eqb-true, ne-eqb, leb-true}
+use borrow.Author.Tests.{eqb-true, ne-eqb}
 use Rattle.text.specs.Bytes.{bytes, startsWith, same, allDigits}
+use Rattle.text.specs.Digit.{isDigit}
 use Rattle.text.specs.Number.{digitValue, below, digitsOf, magnitude, unsigned}
 use Rattle.text.specs.Part.{among, trimEnd}
 use Rattle.text.specs.Reading.{Reading, read, refused, only, mapped, firstOf}
 use Rattle.text.proofs.Begins.{begins-with, begins-same}
 use Rattle.text.proofs.Parts.{from-start}
-use Rattle.text.proofs.Tests.{never, not-some, and-left, and-right}
+use Rattle.text.proofs.Tests.{never, not-some, and-left, and-right, at-least, at-most}
 use Rattle.text.proofs.Trims.{end-take}
 use Rattle.text.proofs.Yields.{Yields, yields-only, yields-sized, yields-either, yields-need, yields-mapped}
 use Rattle.at_command.specs.Ccid.{cardText, iccidText}
@@ -73,10 +74,8 @@ digits-front : (l : List ℕ) → allDigits l ≡ true → reserved l ≡ false
 unfolding reserved
 digits-front [] e = refl
 digits-front (x ∷ s) e =
-    let w = and-left _ _ e in
-    let low = leb-true 48 x (and-left _ _ w) in
-    let high = leb-true x 57 (and-right (leb 48 x) _ w) in
-    rw (ne-eqb x 65 (λ z. omega arith), ne-eqb x 43 (λ z. omega arith))
+    let w = and-left (isDigit x) (allDigits s) e in
+    rw (ne-eqb x 65 (λ z. omega (arith, at-most 48 57 x w)), ne-eqb x 43 (λ z. omega (arith, at-least 48 57 x w)))
 
 -- ---- the readers
 

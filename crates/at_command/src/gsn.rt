@@ -49,7 +49,7 @@ fn check_digit(s: &[u8]) -> u8
     let mut odd = false;
     let mut i = 0;
     while i < s.len() {
-        let d = digit::worth(s[i]);
+        let d = digit::value(s[i]);
         if odd {
             sum += double(d);
             odd = false;
@@ -83,7 +83,7 @@ impl Imei {
                 is_version_number: true,
             });
         }
-        let last = digit::worth(line[14]);
+        let last = digit::value(line[14]);
         if last != check_digit(part::part(line, 0, 14)) {
             return ImeiAnswer::Refused(3);
         }

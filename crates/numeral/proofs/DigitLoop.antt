@@ -17,7 +17,6 @@ use Rattle.text.specs.Number.{digitValue, below, prefixed, digitsOf, valueOf}
 use Rattle.text.proofs.AtIndex.{at-next}
 use Rattle.numeral.specs.Numeral.{Decimal, point, decimal, behindSign}
 use Rattle.text.proofs.Digits.{decimal-is, decimal-not, one-more}
-use Rattle.text.proofs.Told.{difference}
 
 -- ---- k digits make the number a; those that follow make the decimal with them, p places behind the point
 
@@ -102,17 +101,17 @@ module _ (s : List ℕ) (start : ℕ) (n : Bool) (a k back i : ℕ) (inv : Loop 
         ≡ joined n a k (places (ltb back (length s)) (length s - back) (drop (i + 1) s)) (prefixed o (digitsOf 10 (digits (ltb back (length s)) (drop (i + 1) s))))
     other e o v = rw (inv, at-next s i h, no-point n a k (length s - back) (getD s i 0) (drop (i + 1) s) (ltb back (length s)) e, v)
 
-    pub no-digit : (t : Bool) → t ≡ isDigit (getD s i 0) → (getD s i 0 ≡ 46 → ⊥) → not t ≡ true → none ≡ behindSign n (drop start s)
-    no-digit t told e f = sym (other e none (decimal-not (getD s i 0) (sym told ∙ not-true t f)))
+    pub other-byte : (t : Bool) → t ≡ isDigit (getD s i 0) → (getD s i 0 ≡ 46 → ⊥) → not t ≡ true → none ≡ behindSign n (drop start s)
+    other-byte t told e f = sym (other e none (decimal-not (getD s i 0) (sym told ∙ not-true t f)))
 
     pub many : (getD s i 0 ≡ 46 → ⊥) → 15 ≤ k → none ≡ behindSign n (drop start s)
     many e l = rw (other e (below 10 (digitValue (getD s i 0))) refl, joined-many)
 
     pub digit : (t : Bool) (v : ℕ) → t ≡ isDigit (getD s i 0) → v ≡ aboveZero (getD s i 0) → (getD s i 0 ≡ 46 → ⊥) → not t ≡ false → Loop s start n (a * 10 + v) (k + 1) back (i + 1)
     unfolding rest
-    digit t v told worth e f =
+    digit t v told value e f =
         let is : isDigit (getD s i 0) ≡ true = sym told ∙ not-false t f in
-        rw (worth, difference (getD s i 0) is, other e (some (getD s i 0 - 48)) (decimal-is (getD s i 0) is), joined-digit)
+        rw (value, other e (some (aboveZero (getD s i 0))) (decimal-is (getD s i 0) is), joined-digit)
 
   module _ (h : length s ≤ i) where
     pub no-digits : k ≡ 0 → none ≡ behindSign n (drop start s)

@@ -1,17 +1,19 @@
 -- Decimal digits taken apart, the first and those behind it; and n of them are worth less than 10 ^ n.
 use mathlib.Core.Path.{_≡_, refl, sym, ap, _∙_}
-use mathlib.Core.Bool.{Bool, true, false, cond, _&&_}
+use mathlib.Core.Logic.{_⊎_, inl, inr}
+use mathlib.Core.Bool.{Bool, true, false, cond}
 use mathlib.Core.List.{List, [], _∷_}
 use mathlib.Core.Option.{Option, none, some}
 use Prim.Native.Nat.{ℕ, suc, _*_, _^_, _≤_, _<_}
 use native.Mathlib.Nat.{pow-succ', mul-le-mul-right}
 use native.Mathlib.Omega.{arith}
-use lib.Dec.{ltb, leb}
+use lib.Dec.{ltb}
 use lib.ListN.{length}
-use borrow.Author.Tests.{leb-true, ltb-true}
+use borrow.Author.Tests.{ltb-true}
+use Rattle.text.specs.Digit.{isDigit}
 use Rattle.text.specs.Number.{digitValue, below, prefixed, digitsOf, valueOf}
 use Rattle.text.proofs.Digits.{decimal-not}
-use Rattle.text.proofs.Tests.{not-some}
+use Rattle.text.proofs.Tests.{not-some, both, at-least}
 
 -- ---- a byte
 
@@ -24,11 +26,11 @@ below-lt (some w) v e = go (ltb w 10) (ltb-true w 10) e
     go false l e = not-some e
 
 pub digit-ge : (x v : ℕ) → below 10 (digitValue x) ≡ some v → 48 ≤ x
-digit-ge x v e = go (leb 48 x) (leb x 57) (leb-true 48 x) (λ w. decimal-not x w)
+digit-ge x v e = go (both (isDigit x))
   where
-    go : (a b : Bool) → (a ≡ true → 48 ≤ x) → (a && b ≡ false → below 10 (digitValue x) ≡ none) → 48 ≤ x
-    go true b l n = l refl
-    go false b l n = not-some (sym (n refl) ∙ e)
+    go : (isDigit x ≡ true) ⊎ (isDigit x ≡ false) → 48 ≤ x
+    go (inl is) = at-least 48 57 x is
+    go (inr off) = not-some (sym (decimal-not x off) ∙ e)
 
 -- ---- a text of digits
 

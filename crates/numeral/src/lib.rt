@@ -139,7 +139,7 @@ fn digits_from(s: &[u8], start: usize, negative: bool) -> Scanned
             if 15 <= count {
                 return Scanned::Not;
             }
-            m = m * 10 + digit::worth(c) as u64;
+            m = m * 10 + digit::value(c) as u64;
             count += 1;
             i += 1;
         }

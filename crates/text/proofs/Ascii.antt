@@ -4,14 +4,13 @@ use mathlib.Core.Bool.{Bool, true, _&&_, and-assoc}
 use mathlib.Core.List.{List, [], _∷_, _++_}
 use Prim.Native.Nat.{ℕ, _≤_, _<_}
 use native.Mathlib.Omega.{arith}
-use lib.Dec.{leb}
 use lib.ListN.{length, take, drop, take-append-drop}
-use borrow.Author.Tests.{leb-true, le-leb, ne-eqb}
+use borrow.Author.Tests.{le-leb, ne-eqb}
 use Rattle.text.specs.Bytes.{within, countOf, allWithin, allDigits}
 use Rattle.text.specs.Line.{lineCheck}
 use Rattle.text.specs.Utf8.{behind, utf8}
 use Rattle.text.proofs.LineLaws.{check-good}
-use Rattle.text.proofs.Tests.{and-left, and-right}
+use Rattle.text.proofs.Tests.{and-left, and-right, at-least, at-most}
 use Rattle.text.proofs.Utf8Laws.{utf8-ascii}
 
 module _ (lo hi : ℕ) where
@@ -28,14 +27,12 @@ module _ (lo hi : ℕ) where
   within-wider a b l h [] e = refl
   within-wider a b l h (x ∷ s) e =
       let w = and-left (within lo hi x) _ e in
-      let low = leb-true lo x (and-left (leb lo x) _ w) in
-      let high = leb-true x hi (and-right (leb lo x) _ w) in
-      rw (le-leb a x (omega arith), le-leb x b (omega arith)) (within-wider a b l h s (and-right (within lo hi x) _ e))
+      rw (le-leb a x (omega (arith, at-least lo hi x w)), le-leb x b (omega (arith, at-most lo hi x w))) (within-wider a b l h s (and-right (within lo hi x) _ e))
 
   pub within-free : (b : ℕ) → b < lo → (s : List ℕ) → allWithin lo hi s ≡ true → countOf b s ≡ 0
   within-free b l [] e = refl
   within-free b l (x ∷ s) e =
-      let low = leb-true lo x (and-left (leb lo x) _ (and-left (within lo hi x) _ e)) in
+      let low = at-least lo hi x (and-left (within lo hi x) _ e) in
       rw (ne-eqb x b (λ z. omega arith), within-free b l s (and-right (within lo hi x) _ e))
 
 pub digits-printable : (s : List ℕ) → allDigits s ≡ true → allWithin 32 126 s ≡ true
@@ -45,7 +42,7 @@ pub ascii-utf8 : (s : List ℕ) → allWithin 0 0x7F s ≡ true → utf8 s ≡ t
 unfolding utf8 behind
 ascii-utf8 [] e = refl
 ascii-utf8 (x ∷ s) e =
-    let high = leb-true x 0x7F (and-right (leb 0 x) _ (and-left (within 0 0x7F x) _ e)) in
+    let high = at-most 0 0x7F x (and-left (within 0 0x7F x) _ e) in
     utf8-ascii (x ∷ s) 0 refl (omega arith) (omega arith) ∙ ascii-utf8 s (and-right (within 0 0x7F x) _ e)
 
 pub check-ascii : (s : List ℕ) → length s ≤ 256 → allWithin 0 0x7F s ≡ true → lineCheck s ≡ 0

@@ -14,15 +14,14 @@ use Rattle.text.specs.Bytes.{within}
 use Rattle.text.specs.Digit.{isDigit, aboveZero}
 use Rattle.text.specs.Number.{digitValue, below, prefixed, digitsOf, valueOf, upTo, worth, magnitude}
 use Rattle.text.proofs.AtIndex.{at-next, at-end}
-use Rattle.text.proofs.Tests.{never}
-use Rattle.text.proofs.Told.{digit-high, difference}
+use Rattle.text.proofs.Told.{to-nine, value-is}
 
 -- `digit_value`
 module _ (x : ℕ) where
   in-range : (lo hi : ℕ) → lo ≤ x → x ≤ hi → within lo hi x ≡ true
   in-range lo hi h k = rw (le-leb _ _ h, le-leb _ _ k)
 
-  off-range : (lo hi : ℕ) → (lo ≤ x → x ≤ hi → ⊥) → within lo hi x ≡ false
+  pub off-range : (lo hi : ℕ) → (lo ≤ x → x ≤ hi → ⊥) → within lo hi x ≡ false
   off-range lo hi f = by (leb lo x) (leb x hi) (leb-true lo x) (leb-true x hi)
     where
       by : (a b : Bool) → (a ≡ true → lo ≤ x) → (b ≡ true → x ≤ hi) → a && b ≡ false
@@ -31,10 +30,9 @@ module _ (x : ℕ) where
       by false b h k = refl
 
   pub digit-09 : (r : ℕ) (t : Bool) → t ≡ isDigit x → t ≡ true → r ≡ aboveZero x → below 16 (some r) ≡ digitValue x
-  unfolding digitValue
   digit-09 r t told h e =
       let is : isDigit x ≡ true = sym told ∙ h in
-      rw (is, e, difference x is, lt-ltb (x - 48) 16 (omega (arith, digit-high x is)))
+      rw (e, value-is x is, lt-ltb (aboveZero x) 16 (omega (arith, to-nine x is)))
 
   pub digit-AF : 65 ≤ x → x ≤ 70 → below 16 (some (x - 55)) ≡ digitValue x
   unfolding digitValue
@@ -44,12 +42,12 @@ module _ (x : ℕ) where
   unfolding digitValue
   digit-af h k = rw (off-range 48 57 (λ a b. omega arith), off-range 65 70 (λ a b. omega arith), in-range 97 102 h k, lt-ltb (x - 87) 16 (omega arith))
 
-  pub no-digit-09 : (t : Bool) → t ≡ isDigit x → t ≡ false → 48 ≤ x → x ≤ 57 → ⊥
-  no-digit-09 t told n h k = let e : false ≡ true = sym n ∙ told ∙ in-range 48 57 h k in never (cc)
+  pub told-no : (t : Bool) → t ≡ isDigit x → t ≡ false → isDigit x ≡ false
+  told-no t told n = sym told ∙ n
 
-  pub no-digit : (48 ≤ x → x ≤ 57 → ⊥) → (65 ≤ x → x ≤ 70 → ⊥) → (97 ≤ x → x ≤ 102 → ⊥) → none ≡ digitValue x
+  pub no-digit : isDigit x ≡ false → (65 ≤ x → x ≤ 70 → ⊥) → (97 ≤ x → x ≤ 102 → ⊥) → none ≡ digitValue x
   unfolding digitValue
-  no-digit f g h = rw (off-range 48 57 f, off-range 65 70 g, off-range 97 102 h)
+  no-digit e g h = rw (e, off-range 65 70 g, off-range 97 102 h)
 
 -- a digit's worth, of the bases up to 16
 below-16 : (base r : ℕ) (t : Bool) → ltb r 16 ≡ t → base ≤ 16 → below base (cond t (some r) none) ≡ below base (some r)
@@ -60,9 +58,8 @@ digit-in : (base r x : ℕ) → base ≤ 16 → below 16 (some r) ≡ digitValue
 digit-in base r x h e = rw (sym e) (below-16 base r (ltb r 16) refl h)
 
 -- the digits of base 10: which bytes they are, and what each is worth
-pub decimal-is : (x : ℕ) → isDigit x ≡ true → below 10 (digitValue x) ≡ some (x - 48)
-unfolding digitValue
-decimal-is x is = rw (is, lt-ltb (x - 48) 10 (omega (arith, digit-high x is)))
+pub decimal-is : (x : ℕ) → isDigit x ≡ true → below 10 (digitValue x) ≡ some (aboveZero x)
+decimal-is x is = rw (value-is x is, lt-ltb (aboveZero x) 10 (omega (arith, to-nine x is)))
 
 no-letter : (lo hi k x : ℕ) (o : Option ℕ) → k + 10 ≤ lo → below 10 o ≡ none → below 10 (cond (within lo hi x) (some (x - k)) o) ≡ none
 no-letter lo hi k x o h e = go (leb lo x) (leb x hi) (leb-true lo x)

@@ -8,7 +8,7 @@ use lib.Dec.{leb, ltb}
 use borrow.Author.Tests.{lt-ltb, le-ltb, leb-true, leb-false}
 use Rattle.text.specs.Digit.{isDigit, aboveZero, DigitsTold}
 use Rattle.text.specs.Number.{digitValue}
-use Rattle.text.proofs.Tests.{and-left, and-right}
+use Rattle.text.proofs.Tests.{at-least, at-most}
 
 -- a byte below '0' wraps to 208 and more, one above '9' is ten or more above '0'
 pub told-by : (x r : ℕ) → x < 256 → r ≡ aboveZero x → ltb r 10 ≡ isDigit x
@@ -21,21 +21,15 @@ told-by x r h e = by (leb 48 x) (leb x 57) (leb-true 48 x) (leb-false 48 x) (leb
 
 -- of a digit nothing wraps
 module _ (x : ℕ) (is : isDigit x ≡ true) where
-  digit-low : 48 ≤ x
-  digit-low = leb-true 48 x (and-left (leb 48 x) (leb x 57) is)
-
-  pub digit-high : x ≤ 57
-  digit-high = leb-true x 57 (and-right (leb 48 x) (leb x 57) is)
-
   pub difference : aboveZero x ≡ x - 48
-  difference = omega (arith, digit-low, digit-high)
+  difference = omega (arith, at-least 48 57 x is, at-most 48 57 x is)
 
   pub to-nine : aboveZero x ≤ 9
-  to-nine = omega (arith, difference, digit-high)
+  to-nine = omega (arith, difference, at-most 48 57 x is)
 
-value-is : (x : ℕ) → isDigit x ≡ true → digitValue x ≡ some (aboveZero x)
-unfolding digitValue
-value-is x is = rw (is, difference x is)
+  pub value-is : digitValue x ≡ some (aboveZero x)
+  unfolding digitValue
+  value-is = rw (is, difference)
 
 pub digits-told : DigitsTold
 digits-told x h = record { test = told-by x (aboveZero x) h refl; value = value-is x }

@@ -13,8 +13,8 @@ use Rattle.text.specs.Bytes.{within, startsWith}
 use Rattle.text.specs.Part.{partOf}
 use Rattle.text.specs.Number.{digitValue, below, prefixed, digitsOf, worth, magnitude, unsigned}
 use Rattle.text.specs.Utf8.{Range, fits, Character, Inside}
-use Rattle.text.proofs.Digits.{no-digit}
-use Rattle.text.proofs.Tests.{and-left, and-right}
+use Rattle.text.proofs.Digits.{off-range, no-digit}
+use Rattle.text.proofs.Tests.{and-left, and-right, at-least}
 use Rattle.text.proofs.Utf8Laws.{fits-length}
 use Rattle.text.proofs.Utf8Grammar.{every, every-at}
 
@@ -31,7 +31,7 @@ fit-above [] (x ∷ c) f e n h = absurd (omega (arith, fits-length [] (x ∷ c) 
 fit-above (q ∷ r) [] f e n h = absurd (omega arith)
 fit-above (q ∷ r) (x ∷ c) f e zero h =
     let a : 0x80 ≤ q .low = leb-true 0x80 (q .low) (and-left (above q) (every above r) e) in
-    let b : q .low ≤ x = leb-true (q .low) x (and-left (leb (q .low) x) (leb x (q .high)) (and-left (within (q .low) (q .high) x) (fits r c) f)) in
+    let b : q .low ≤ x = at-least (q .low) (q .high) x (and-left (within (q .low) (q .high) x) (fits r c) f) in
     omega arith
 fit-above (q ∷ r) (x ∷ c) f e (suc n) h =
     fit-above r c (and-right (within (q .low) (q .high) x) (fits r c) f) (and-right (above q) (every above r) e) n (omega arith)
@@ -63,7 +63,7 @@ prefixed-none (some d) = refl
 no-digits : (base : ℕ) (s : List ℕ) (n : ℕ) → n < length s → 0x80 ≤ getD s n 0 → digitsOf base s ≡ none
 unfolding digitsOf
 no-digits base [] n h b = absurd (omega arith)
-no-digits base (x ∷ s) zero h b = rw (← no-digit x (λ l k. omega arith) (λ l k. omega arith) (λ l k. omega arith))
+no-digits base (x ∷ s) zero h b = rw (← no-digit x (off-range x 48 57 (λ l k. omega arith)) (λ l k. omega arith) (λ l k. omega arith))
 no-digits base (x ∷ s) (suc n) h b = rw (no-digits base s n (omega arith) b) (prefixed-none (below base (digitValue x)))
 
 no-number : (base max : ℕ) (s : List ℕ) (n : ℕ) → n < length s → 0x80 ≤ getD s n 0 → unsigned base max s ≡ none

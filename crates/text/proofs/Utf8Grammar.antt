@@ -5,13 +5,13 @@ use mathlib.Core.Bool.{Bool, true, false, cond, _&&_, not, false≢true, and-fal
 use mathlib.Core.List.{List, [], _∷_, _++_, append-assoc, List·Memᴰ, List·Memᴰ·head, List·Memᴰ·tail}
 use Prim.Native.Nat.{ℕ, zero, suc, _≤_, _<_}
 use native.Mathlib.Omega.{arith}
-use lib.Dec.{leb, ltb}
+use lib.Dec.{ltb}
 use lib.ListN.{length, take, drop, take-append-drop}
 use lib.Seq.{take-at, drop-at}
-use borrow.Author.Tests.{eqb-true, ltb-true, leb-true, lt-leb}
+use borrow.Author.Tests.{eqb-true, ltb-true, lt-leb}
 use Rattle.text.specs.Bytes.{within}
 use Rattle.text.specs.Utf8.{Range, rows, fits, Character, Octets, none, char, sizeBy, charSize, behind, utf8}
-use Rattle.text.proofs.Tests.{and-left, and-right}
+use Rattle.text.proofs.Tests.{and-left, and-right, at-least}
 use Rattle.text.proofs.Utf8Laws.{fits-length, led-size, utf8-next, utf8-not}
 
 -- one of the rows fits at the front, and has n bytes
@@ -73,7 +73,7 @@ misfit (p ∷ q) [] c s b h = absurd (false≢true b)
 misfit (p ∷ q) (r ∷ rs) [] s b h = absurd (false≢true h)
 misfit (p ∷ q) (r ∷ rs) (x ∷ c) s b h =
     let a : p .high < r .low = ltb-true (p .high) (r .low) b in
-    let k : r .low ≤ x = leb-true (r .low) x (and-left (leb (r .low) x) (leb x (r .high)) (and-left (within (r .low) (r .high) x) (fits rs c) h)) in
+    let k : r .low ≤ x = at-least (r .low) (r .high) x (and-left (within (r .low) (r .high) x) (fits rs c) h) in
     rw (lt-leb x (p .high) (omega arith), and-false)
 
 row-size : {r : List Range} {rs : List (List Range)} (c s : List ℕ) → List·Memᴰ r rs → ordered rs ≡ true → fits r c ≡ true → sizeBy rs (c ++ s) ≡ length c

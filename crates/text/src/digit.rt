@@ -1,9 +1,9 @@
-// A decimal digit, told in one way and in this file alone: 48 is subtracted, wrapping, and what is left is below ten. It is then the digit's worth.
+// A decimal digit, told in one way and in this file alone: 48 is subtracted, wrapping, and what is left is below ten. It is then the digit's value.
 ghost use Rattle.text.specs.Digit.{isDigit, aboveZero};
 ghost use Rattle.text.specs.Gives.{Gives};
 
-// What a digit is worth; of any other byte ten or more.
-pub fn worth(x: u8) -> u8
+// The value of a digit; of any other byte ten or more.
+pub fn value(x: u8) -> u8
     ensures { λ r. ⌜ Gives (aboveZero x) r ⌝ }
 {
     std::num::wrapping_sub_u8(x, 48)
@@ -13,5 +13,5 @@ pub fn worth(x: u8) -> u8
 pub fn is_ascii_digit(x: u8) -> bool
     ensures { λ r. ⌜ Gives (isDigit x) r ⌝ }
 {
-    worth(x) < 10
+    value(x) < 10
 }

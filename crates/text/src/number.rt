@@ -38,7 +38,7 @@ fn digit_value(x: u8) -> u8
     ensures { λ r. ⌜ below 16 (some r) ≡ digitValue x ⌝ }
 {
     if digit::is_ascii_digit(x) {
-        return digit::worth(x);
+        return digit::value(x);
     }
     match x {
         b'A'..=b'F' => x - 55,

@@ -4,14 +4,15 @@ use mathlib.Core.Path.{_≡_, refl, ap, sym, _∙_}
 use mathlib.Core.Bool.{Bool, true, false}
 use mathlib.Core.List.{List, [], _∷_}
 use native.Mathlib.Omega.{arith}
-use lib.Dec.{eqb, leb}
+use lib.Dec.{eqb}
 use lib.ListN.{length, take, getD}
-use borrow.Author.Tests.{leb-true, ne-eqb}
-use Rattle.text.specs.Bytes.{within, startsWith, allDigits}
+use borrow.Author.Tests.{ne-eqb}
+use Rattle.text.specs.Bytes.{startsWith, allDigits}
+use Rattle.text.specs.Digit.{isDigit}
 use Rattle.text.specs.Line.{checked}
 use Rattle.text.specs.Reading.{Reading, read, refused, only, either, mapped}
 use Rattle.text.proofs.Ascii.{within-wider, check-ascii}
-use Rattle.text.proofs.Tests.{and-left}
+use Rattle.text.proofs.Tests.{and-left, at-least}
 use Rattle.at_command.specs.Gsn.{Identity, whole, checkDigit, isImei, imeiText}
 use Rattle.at_command.specs.Kind as K
 use Rattle.at_command.specs.Response.{imei}
@@ -27,7 +28,7 @@ use Rattle.trial.proofs.Turns.{text-other}
 no-urc : (l : List ℕ) → 0 < length l → allDigits l ≡ true → begins l ≡ false
 unfolding begins startsWith
 no-urc [] h e = absurd (omega arith)
-no-urc (x ∷ l) h e = let low = leb-true 48 x (and-left (leb 48 x) _ (and-left (within 48 57 x) _ e)) in rw (ne-eqb x 43 (λ z. omega arith))
+no-urc (x ∷ l) h e = let low = at-least 48 57 x (and-left (isDigit x) _ e) in rw (ne-eqb x 43 (λ z. omega arith))
 
 module _ (l : List ℕ) (all : allDigits l ≡ true) where
   said : 0 < length l → length l ≤ 18 → lineSaid l ≡ mapped response (mapped imei (imeiText l))

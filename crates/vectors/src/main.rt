@@ -130,7 +130,7 @@ fn nibble(x: u8) -> u8
     ensures { λ r. ⌜ r ≤ 15 ⌝ }
 {
     if digit::is_ascii_digit(x) {
-        return digit::worth(x);
+        return digit::value(x);
     }
     match x {
         b'a'..=b'f' => x - 87,

@@ -11,8 +11,7 @@ use Rattle.text.specs.Digit.{isDigit, aboveZero}
 use Rattle.text.proofs.Ascii.{within-parts}
 use Rattle.text.proofs.AtIndex.{at-next, at-end}
 use Rattle.text.proofs.Tests.{and-left, and-right}
-use Rattle.text.proofs.Told.{difference}
-use Rattle.text.proofs.Told.{to-nine as told-nine}
+use Rattle.text.proofs.Told.{difference, to-nine as told-nine}
 use Rattle.text.specs.Part.{partOf}
 use Rattle.text.specs.Reading.{read, refused, only, either}
 use Rattle.text.proofs.Parts.{from-start}
@@ -37,15 +36,15 @@ module _ (s : List ℕ) (i : ℕ) (inv : allDigits (drop i s) ≡ true) (h : i <
 
 -- `check_digit`
 module _ (s : List ℕ) (i sum : ℕ) where
-  module _ (odd : Bool) (v : ℕ) (all : allDigits (drop i s) ≡ true) (h : i < length s) (worth : v ≡ aboveZero (getD s i 0)) (inv : luhn false s ≡ sum + luhn odd (drop i s)) where
+  module _ (odd : Bool) (v : ℕ) (all : allDigits (drop i s) ≡ true) (h : i < length s) (value : v ≡ aboveZero (getD s i 0)) (inv : luhn false s ≡ sum + luhn odd (drop i s)) where
     pub luhn-odd : (d : ℕ) → odd ≡ true → d ≡ doubled v → luhn false s ≡ (sum + d) + luhn false (drop (i + 1) s)
     luhn-odd d e q =
-        let z : luhn odd (drop i s) ≡ doubled v + luhn false (drop (i + 1) s) = rw (e, at-next s i h, digit-is s i all h v worth) in
+        let z : luhn odd (drop i s) ≡ doubled v + luhn false (drop (i + 1) s) = rw (e, at-next s i h, digit-is s i all h v value) in
         omega arith
 
     pub luhn-even : odd ≡ false → luhn false s ≡ (sum + v) + luhn true (drop (i + 1) s)
     luhn-even e =
-        let z : luhn odd (drop i s) ≡ v + luhn true (drop (i + 1) s) = rw (e, at-next s i h, digit-is s i all h v worth) in
+        let z : luhn odd (drop i s) ≡ v + luhn true (drop (i + 1) s) = rw (e, at-next s i h, digit-is s i all h v value) in
         omega arith
 
   pub luhn-end : (odd : Bool) → luhn false s ≡ sum + luhn odd (drop i s) → length s ≤ i → (10 - sum % 10) % 10 ≡ checkDigit s
@@ -75,9 +74,9 @@ module _ (s : List ℕ) (x : Bool) (all : x ≡ allDigits s) (yes : not x ≡ fa
     expected : k ≡ checkDigit (take 14 s)
     expected = is ∙ ap checkDigit (q ∙ from-start s 14)
 
-    module _ (v : ℕ) (worth : v ≡ aboveZero (getD s 14 0)) where
+    module _ (v : ℕ) (value : v ≡ aboveZero (getD s 14 0)) where
       last : v ≡ getD s 14 0 - 48
-      last = digit-is s 14 (within-parts 48 57 14 s digits .1) (omega arith) v worth
+      last = digit-is s 14 (within-parts 48 57 14 s digits .1) (omega arith) v value
 
       pub last-other : (v ≡ k → ⊥) → refused 3 ≡ imeiText s
       unfolding imeiText only either

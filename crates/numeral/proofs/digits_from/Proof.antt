@@ -10,7 +10,7 @@ use borrow.Author.Needs.{needs}
 use borrow.Author.Tests.{not-false}
 use Rattle.text.specs.Digit.{isDigit, aboveZero}
 use Rattle.text.proofs.Told.{to-nine}
-use Rattle.numeral.proofs.DigitLoop.{Loop, begun, second-point, first-point, no-digit, many, digit, no-digits, all-digits}
+use Rattle.numeral.proofs.DigitLoop.{Loop, begun, second-point, first-point, other-byte, many, digit, no-digits, all-digits}
 use Rattle.numeral.proofs.digits_from.Statement.{statement}
 use Rattle.numeral.proofs.digits_from.Tie as tie
 
@@ -52,5 +52,5 @@ pub digits-from-spec : {M : Type 1} → statement M
 digits-from-spec =
     tie.close
     (tie.spec Inv-loop μ-loop loop-holds (λ c. search needs) (λ c. search second-point) (λ c. search needs) (λ c. search needs) (λ c. search needs) loop-again
-    (λ c κs. search needs) (λ c. search no-digit) (λ c. search many) mul-m (λ c κs. search needs) (λ c. search needs) add-m (λ c. search needs) (λ c. search needs) (λ c. search needs) loop-again-2
+    (λ c κs. search needs) (λ c. search other-byte) (λ c. search many) mul-m (λ c κs. search needs) (λ c. search needs) add-m (λ c. search needs) (λ c. search needs) (λ c. search needs) loop-again-2
     (λ c. search no-digits) (λ c. search needs) (λ c. search all-digits))

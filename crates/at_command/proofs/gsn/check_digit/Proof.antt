@@ -18,16 +18,16 @@ abbrev μ-loop : tie.MeasureT-loop
 
 -- each turn adds at most nine
 add-sum : tie.Need-add-sum Inv-loop μ-loop
-add-sum c = let n : c .before .before .worth .result ≤ 9 = search to-nine in omega (arith, c .double .ensures)
+add-sum c = let n : c .before .before .value .result ≤ 9 = search to-nine in omega (arith, c .double .ensures)
 
 loop-again : tie.Need-loop-again Inv-loop μ-loop
-loop-again c = let n : c .before .before .worth .result ≤ 9 = search to-nine in (search digits-on, omega arith, omega (arith, c .double .ensures), omega arith, search (needs, luhn-odd))
+loop-again c = let n : c .before .before .value .result ≤ 9 = search to-nine in (search digits-on, omega arith, omega (arith, c .double .ensures), omega arith, search (needs, luhn-odd))
 
 add-sum-2 : tie.Need-add-sum-2 Inv-loop μ-loop
-add-sum-2 c = let n : c .before .worth .result ≤ 9 = search to-nine in omega arith
+add-sum-2 c = let n : c .before .value .result ≤ 9 = search to-nine in omega arith
 
 loop-again-2 : tie.Need-loop-again-2 Inv-loop μ-loop
-loop-again-2 c = let n : c .before .worth .result ≤ 9 = search to-nine in (search digits-on, omega arith, omega arith, omega arith, search (needs, luhn-even))
+loop-again-2 c = let n : c .before .value .result ≤ 9 = search to-nine in (search digits-on, omega arith, omega arith, omega arith, search (needs, luhn-even))
 
 pub check-digit-spec : {M : Type 1} → statement M
 check-digit-spec =

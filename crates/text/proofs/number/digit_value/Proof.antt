@@ -1,6 +1,6 @@
 -- The decimal digits, two ranges of letters, and the gaps between them.
 use native.Mathlib.Omega.{arith}
-use Rattle.text.proofs.Digits.{digit-09, digit-AF, digit-af, no-digit-09, no-digit}
+use Rattle.text.proofs.Digits.{digit-09, digit-AF, digit-af, told-no, no-digit}
 use borrow.Author.Needs.{needs}
 use Rattle.text.proofs.number.digit_value.Statement.{statement}
 use Rattle.text.proofs.number.digit_value.Tie as tie
@@ -16,6 +16,6 @@ digit-value-spec =
     (λ c. search needs)
     (λ c. digit-AF _ (omega arith) (omega arith))
     (λ c. digit-af _ (omega arith) (omega arith))
-    (λ c. no-digit _ (search no-digit-09) (λ a b. omega arith) (λ a b. omega arith))
-    (λ c. no-digit _ (λ a b. omega arith) (λ a b. omega arith) (λ a b. omega arith))
-    (λ c. no-digit _ (λ a b. omega arith) (λ a b. omega arith) (λ a b. omega arith)))
+    (λ c. no-digit _ (search told-no) (λ a b. omega arith) (λ a b. omega arith))
+    (λ c. no-digit _ (search told-no) (λ a b. omega arith) (λ a b. omega arith))
+    (λ c. no-digit _ (search told-no) (λ a b. omega arith) (λ a b. omega arith)))
