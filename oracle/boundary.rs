@@ -376,9 +376,13 @@ fn ugnsinf(out: &mut Vec<String>) {
         }
     }
     dates(out);
+    calendar(out);
+    spoiled_dates(out);
+    date_and_more(out);
     floats(out);
 }
 
+/// Dates as the Rust reads them: its places, its signs, what it leaves unread. Most are none (document 02, CR 8).
 fn dates(out: &mut Vec<String>) {
     for date in [
         "20240102030405", "20240102030405.000", "20240102030405.000x\u{e9}", "2024010203040", "2024010203", "2024", "202", "", "00000000000000", "99999999999999",
@@ -388,13 +392,98 @@ fn dates(out: &mut Vec<String>) {
     ] {
         out.push(gnss(&[(2, date)]));
     }
-    // A character laid over each byte of the date.
-    for character in ["\u{e9}", "\u{20ac}", "\u{1f4f6}"] {
+    // A character laid over each byte of the date: letters, and digits that are not ASCII's.
+    for character in ["\u{e9}", "\u{20ac}", "\u{1f4f6}", "\u{663}", "\u{ff13}", "\u{1d7db}"] {
         for at in 0..=14 {
             let tail = "20240102030405.000".get(at + character.len()..).unwrap_or("");
             out.push(gnss(&[(2, &format!("{}{}{}", &"20240102030405.000"[..at], character, tail))]));
             out.push(gnss(&[(2, &format!("{}{}", &"20240102030405.000"[..at], character))]));
         }
+    }
+}
+
+/// Every month's ends in a common year, a leap one, the one that 400 divides, the first and the last; each limit of each part; a leap second.
+fn calendar(out: &mut Vec<String>) {
+    let mut date = |text: String| out.push(gnss(&[(2, &text)]));
+    for (year, tail) in [(2023, ""), (2024, ".000"), (2000, ""), (1980, ".5"), (2099, "")] {
+        for month in 1..=12 {
+            for day in [0, 1, 28, 29, 30, 31, 32] {
+                date(format!("{}{:02}{:02}123456{}", year, month, day, tail));
+            }
+        }
+    }
+    for year in [1900, 1979, 1981, 1984, 1996, 2001, 2004, 2096, 2098, 2100, 2104, 2400] {
+        for day in ["0228", "0229", "0301"] {
+            date(format!("{}{}235959", year, day));
+        }
+    }
+    for (at, limits) in [
+        (0, "0000 0001 0400 1979 1980 1981 1999 2000 2098 2099 2100 9999"), (4, "00 01 02 09 10 12 13 20 99"), (6, "00 01 09 10 30 31 32 40 99"),
+        (8, "00 09 19 20 23 24 25 29 30 99"), (10, "00 09 10 59 60 61 99"), (12, "00 09 10 59 60 61 99"),
+    ] {
+        for limit in limits.split(' ') {
+            for tail in ["", ".0"] {
+                date(format!("{}{}{}{}", &"20240131123456"[..at], limit, &"20240131123456"[at + limit.len()..], tail));
+            }
+        }
+    }
+    for whole in ["19791231235959", "19800101000000", "19991231235959", "20000101000000", "20161231235960", "20991231235959", "21000101000000"] {
+        for tail in ["", ".000", ".999999999"] {
+            date(format!("{}{}", whole, tail));
+        }
+    }
+}
+
+/// Every length, every way to end; one byte of a good date spoiled, put in or left out.
+fn spoiled_dates(out: &mut Vec<String>) {
+    let mut date = |text: String| out.push(gnss(&[(2, &text)]));
+    for count in 0..=16 {
+        for tail in ["", ".", ".5"] {
+            date(format!("{}{}", &"2024010203040516"[..count], tail));
+        }
+    }
+    for tail in [
+        ".0", ".9", ".00", ".250", ".123456789", ".18446744073709551616", ".5.", "..5", ".5.5", ".x", ".x5", ".5x", "x", ".+5", ".-5", "+5", "-5", ".5e3", ". 5", ".5 ", " ", " .5",
+        ".\0", ".5\0", "\0", ".\u{663}", ".5\u{663}", ".\u{ff13}", "\u{ff0e}5", "\u{663}", ".\u{e9}", ".5\u{1f4f6}", "./", ".:", ".5/", ".5:", "/5", ":5", "'5", ";5", "Z", ".000Z", "+00",
+        ".\"5\"", "\"",
+    ] {
+        date(format!("20240102030405{}", tail));
+    }
+    for good in ["20240229235958", "20240229235958.25"] {
+        for at in 0..good.len() {
+            let (front, rest) = good.split_at(at);
+            for spoiled in ["/", ":", "+", "-", " ", ".", "a", "\0", "\u{663}", "\u{ff13}"] {
+                date(format!("{}{}{}", front, spoiled, &rest[1..]));
+            }
+            for more in ["0", "+", " "] {
+                date(format!("{}{}{}", front, more, rest));
+            }
+            date(format!("{}{}", front, &rest[1..]));
+        }
+    }
+    // Up to the last byte that a line may have.
+    for tail in ["", "x", ".", "\u{e9}"] {
+        for length in [255, 256, 257] {
+            let start = gnss(&[(2, "20240102030405.")]).len() + tail.len();
+            date(format!("20240102030405.{}{}", "3".repeat(length - start), tail));
+        }
+    }
+}
+
+/// 13 comes after the field count and both statuses and before every other field; without a fix the date is not read.
+fn date_and_more(out: &mut Vec<String>) {
+    for date in ["20240102030405", "20240102030405.5", "", "20230229120000", "20240102240000.000", "2024010203040", "20240102030405.", "\u{e9}"] {
+        for (at, text) in [
+            (0, "0"), (0, "00"), (0, "01"), (0, "+1"), (0, ""), (1, "0"), (1, "00"), (1, "01"), (1, "+1"), (1, ""), (3, ""), (3, "x"), (3, "1e5"), (4, ""), (4, "inf"), (5, ""), (5, "."),
+            (6, ""), (6, "x"), (7, "nan"), (10, "1234567890123456"), (11, " 1"), (12, "1e5"), (12, "x"), (14, ""), (14, "x"), (15, "-1"), (16, "4294967296"), (18, "x"), (20, "x"),
+        ] {
+            out.push(gnss(&[(2, date), (at, text)]));
+        }
+        let line = gnss(&[(2, date)]);
+        out.push(line[..line.len() - 1].to_string());
+        out.push(format!("{},", line));
+        out.push(gnss(&[(0, "0"), (1, "0"), (2, date), (3, "x")]));
+        out.push(format!("+UGNSINF: 1,1,{}{}", date, ",".repeat(18)));
     }
 }
 
@@ -468,6 +557,15 @@ fn not_utf8(out: &mut Vec<Vec<u8>>) {
     ] {
         for (before, after) in [(&b""[..], &b""[..]), (b"+COPS: 0,0,\"", b"\",7"), (b"8", b"1111111111111111"), (b"OK", b"")] {
             out.push([before, bytes, after].concat());
+        }
+    }
+    // a fix, at each byte of its date
+    let fix = gnss(&[]).into_bytes();
+    for at in 14..32 {
+        for byte in [128, 255] {
+            let mut line = fix.clone();
+            line[at] = byte;
+            out.push(line);
         }
     }
     out.push([b"+COPS: 0,0,", &b"x".repeat(245)[..], b"\xff"].concat());

@@ -4,7 +4,7 @@ use crate::boundary::imei;
 use crate::texts::desk_numeral;
 use std::str::from_utf8;
 
-pub const ENTRIES: [(&str, &str); 11] = [
+pub const ENTRIES: [(&str, &str); 12] = [
     ("D1", "a line of more than 256 bytes"),
     ("D2", "a line that is not UTF-8"),
     ("D3", "an ICCID cut inside a character"),
@@ -16,6 +16,7 @@ pub const ENTRIES: [(&str, &str); 11] = [
     ("D9", "a request text with a byte outside 32 to 126"),
     ("D19", "an operator number that is not five or six digits"),
     ("D20", "sixteen digits"),
+    ("D21", "a fix whose date does not exist"),
 ];
 
 /// `rust` is None where the entry leaves the Rust's answer open.
@@ -64,13 +65,68 @@ pub fn line(line: &[u8]) -> Option<Outside> {
         if fields.len() > 21 {
             return outside("D6", None, "refused 3");
         }
-        let read = fields.len() == 21 && fields[0] == "1" && fields[1] == "1";
-        let floats = [3, 4, 5, 6, 7, 10, 11, 12];
-        if read && floats.iter().any(|&at| !fields[at].is_empty() && !desk_numeral(fields[at])) {
-            return outside("D7", None, "refused 3");
+        if fields.len() == 21 && fields[0] == "1" && fields[1] == "1" {
+            return fix(&fields);
         }
     }
     None
+}
+
+/// Latitude, longitude, altitude, hdop, pdop, vdop, speed and course, in the order of the answer; then its four counts.
+const FLOATS: [usize; 8] = [3, 4, 5, 10, 11, 12, 6, 7];
+const COUNTS: [usize; 4] = [14, 15, 16, 18];
+
+/// The date must exist (document 02, CR 8), and is read before the floats. The Rust reads any; what it makes of a float that is no desk numeral is left open.
+fn fix(fields: &[&str]) -> Option<Outside> {
+    let plain = FLOATS.iter().all(|&at| fields[at].is_empty() || desk_numeral(fields[at]));
+    if !date_exists(fields[2]) {
+        let rust = unchecked(fields).unwrap_or("refused 3".to_string());
+        return outside("D21", if plain { Some(&rust) } else { None }, "refused 13");
+    }
+    if plain { None } else { outside("D7", None, "refused 3") }
+}
+
+/// Fourteen digits, then nothing or a point and one or more digits. The fourteen are one number, taken apart from its end.
+fn date_exists(field: &str) -> bool {
+    let digits = |text: &str| !text.is_empty() && text.bytes().all(|byte| byte.is_ascii_digit());
+    let (whole, fraction) = field.split_once('.').unwrap_or((field, "0"));
+    if whole.len() != 14 || !digits(whole) || !digits(fraction) {
+        return false;
+    }
+    let mut rest: u64 = whole.parse().unwrap();
+    let mut pair = || {
+        let last = rest % 100;
+        rest /= 100;
+        last
+    };
+    let (second, minute, hour, day, month) = (pair(), pair(), pair(), pair(), pair());
+    let year = rest;
+    let leap = year % 400 == 0 || year % 4 == 0 && year % 100 != 0;
+    let days = match month {
+        2 if leap => 29,
+        2 => 28,
+        4 | 6 | 9 | 11 => 30,
+        1..=12 => 31,
+        _ => 0,
+    };
+    (1980..=2099).contains(&year) && (1..=days).contains(&day) && hour < 24 && minute < 60 && second < 60
+}
+
+/// What the Rust prints for a fix, whatever its date: six numbers in their places, signs and all, or six zeros. None: it refuses the line.
+fn unchecked(fields: &[&str]) -> Option<String> {
+    let places = [(0, 4), (4, 6), (6, 8), (8, 10), (10, 12), (12, 14)];
+    let numbers: Option<Vec<u16>> = places.iter().map(|&(from, to)| fields[2].get(from..to)?.parse().ok()).collect();
+    let mut words = vec!["GnssReport Fix".to_string()];
+    words.extend(numbers.unwrap_or(vec![0; 6]).iter().map(u16::to_string));
+    for at in FLOATS {
+        let value: f32 = if at > 5 && fields[at].is_empty() { 0.0 } else { fields[at].parse().ok()? };
+        words.push(format!("{:08x}", value.to_bits()));
+    }
+    for at in COUNTS {
+        let count: u32 = if fields[at].is_empty() { 0 } else { fields[at].parse().ok()? };
+        words.push(count.to_string());
+    }
+    Some(words.join(" "))
 }
 
 /// Sixteen digits (document 02, CR 3). The Rust takes the last of them for a check digit.

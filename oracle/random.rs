@@ -310,29 +310,38 @@ fn ugnsinf(rng: &mut Rng) -> String {
     format!("+UGNSINF: {}", fields.join(","))
 }
 
+/// Mostly one that exists, of any day from 1980 to 2099. Some are one step beyond in a part, some have a day that the month lacks, some are damaged.
 fn date(rng: &mut Rng) -> String {
-    let mut date = if rng.percent(50) {
-        format!(
-            "{:04}{:02}{:02}{:02}{:02}{:02}",
-            rng.between(1980, 2099),
-            rng.between(1, 12),
-            rng.between(1, 31),
-            rng.below(24),
-            rng.below(60),
-            rng.below(60)
-        )
-    } else {
-        rng.digits(14)
-    };
-    if rng.percent(70) {
-        date += ".000";
+    let beyond = if rng.percent(15) { 1 } else { 0 };
+    let mut date = format!(
+        "{:04}{:02}{:02}{:02}{:02}{:02}",
+        rng.between(1980 - beyond, 2099 + beyond),
+        rng.between(1 - beyond, 12 + beyond),
+        rng.between(1 - beyond, 31 + beyond),
+        rng.below(24 + beyond),
+        rng.below(60 + beyond),
+        rng.below(60 + beyond)
+    );
+    if rng.percent(6) {
+        date = rng.digits(14);
     }
-    if rng.percent(15) {
-        let at = rng.below(date.len());
-        let text = if rng.percent(50) { rng.pick(CHARACTERS) } else { rng.pick(&["+", "-", " ", "x", ""]) };
-        date.replace_range(at..at + 1, text);
+    date += &match rng.below(10) {
+        0..=3 => ".000".to_string(),
+        4..=6 => {
+            let count = rng.between(1, 12);
+            format!(".{}", rng.digits(count))
+        }
+        _ => String::new(),
+    };
+    if rng.percent(2) {
+        date += rng.pick(&[".", "0", "x", "Z", " ", ".5", "+", ":"]);
     }
     if rng.percent(8) {
+        let at = rng.below(date.len());
+        let text = if rng.percent(50) { rng.pick(CHARACTERS) } else { rng.pick(&["+", "-", " ", "x", "", "/", ":", ".", "7"]) };
+        date.replace_range(at..at + 1, text);
+    }
+    if rng.percent(3) {
         let end = rng.below(date.len());
         date = date.chars().take(end).collect();
     }

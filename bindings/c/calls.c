@@ -41,6 +41,10 @@ int main(void)
     CHECK(values[0] == SIM7000_IMEI && values[1] == 0 && values[2] == 15 && values[3] == 0);
     CHECK(sim7000_read_line(BYTES("4901542032375181"), values) == 0);
     CHECK(values[0] == SIM7000_IMEI && values[1] == 0 && values[2] == 16 && values[3] == 1);
+    CHECK(sim7000_read_line(BYTES("+UGNSINF: 1,1,20000229010203,1,2,3,,,,,,,,,,,,,,,"), values) == 0);
+    CHECK(values[0] == SIM7000_GNSS_REPORT && values[1] == 2 && values[2] == 2000 && values[3] == 2 && values[4] == 29 && values[5] == 1 && values[6] == 2 && values[7] == 3);
+    CHECK(sim7000_read_line(BYTES("+UGNSINF: 1,1,20010229010203,x,2,3,,,,,,,,,,,,,,,"), values) == SIM7000_NO_SUCH_DATE);
+    CHECK(sim7000_sort_line(BYTES("+UGNSINF: 1,1,,1,2,3,,,,,,,,,,,,,,,")) == SIM7000_REFUSED + SIM7000_NO_SUCH_DATE);
     CHECK(sim7000_sort_line(BYTES("OK")) == SIM7000_GENERIC_OK);
     CHECK(sim7000_sort_line(BYTES("\xff")) == SIM7000_REFUSED + SIM7000_LINE_NOT_UTF8);
 
@@ -67,6 +71,7 @@ int main(void)
     CHECK(hear(&desk, "ERROR\r\n") == SIM7000_STRAY && told[3] == 0);
     CHECK(hear(&desk, "AT+HTTPTOFS=\"url\",\"file\"\r\r\n") == SIM7000_ECHO && holds(text, told[2], "AT+HTTPTOFS=\"url\",\"file\"\r"));
     CHECK(desk.state[1] != 0 && desk.state[2] == 0);
+    CHECK(hear(&desk, "+UGNSINF: 1,1,20010229010203,1,2,3,,,,,,,,,,,,,,,\r\n") == SIM7000_STRAY && told[3] == SIM7000_NO_SUCH_DATE);
     CHECK(hear(&desk, "ERROR\r\n") == SIM7000_FAILED && holds(text, told[2], "ERROR"));
     CHECK(hear(&desk, "+C") == SIM7000_NO_EVENT && desk.state[0] == 2);
     CHECK(sim7000_open_echo(desk.state, desk.sent, SIM7000_EXECUTE, 0, 0, BYTES(""), BYTES(""), out, sizeof out, &size) == SIM7000_LINE_UNFINISHED);

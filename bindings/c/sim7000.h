@@ -17,17 +17,18 @@ extern "C" {
 /* ---- refusals */
 
 enum {
-    SIM7000_LINE_TOO_LONG = 1,       /* more than 256 bytes */
+    SIM7000_LINE_TOO_LONG = 1,        /* more than 256 bytes */
     SIM7000_LINE_NOT_UTF8 = 2,
-    SIM7000_NOT_ACCEPTED = 3,        /* no reader accepts the line; no writer has the number */
-    SIM7000_TEXT_IN_LINE_LONG = 4,   /* a sender of more than 20 bytes, a network time of more than 32 */
-    SIM7000_TEXT_TOO_LONG = 5,       /* ntp_server 64, url 64, file_path 32, plmn 6 */
-    SIM7000_TEXT_NOT_PLAIN = 6,      /* a byte outside 32 to 126 */
+    SIM7000_NOT_ACCEPTED = 3,         /* no reader accepts the line; no writer has the number */
+    SIM7000_TEXT_IN_LINE_LONG = 4,    /* a sender of more than 20 bytes, a network time of more than 32 */
+    SIM7000_TEXT_TOO_LONG = 5,        /* ntp_server 64, url 64, file_path 32, plmn 6 */
+    SIM7000_TEXT_NOT_PLAIN = 6,       /* a byte outside 32 to 126 */
     SIM7000_OUT_TOO_SHORT = 7,
     SIM7000_COMMAND_OPEN = 8,
     SIM7000_LINE_UNFINISHED = 9,
-    SIM7000_TEXT_BUFFER_SHORT = 10,  /* under 256 bytes */
-    SIM7000_NOT_OPERATOR_NUMBER = 12 /* a plmn that is not five or six digits */
+    SIM7000_TEXT_BUFFER_SHORT = 10,   /* under 256 bytes */
+    SIM7000_NOT_OPERATOR_NUMBER = 12, /* a plmn that is not five or six digits */
+    SIM7000_NO_SUCH_DATE = 13         /* a GNSS fix whose date field is no date of 1980 to 2099 */
 };
 
 /* ---- lines */
@@ -48,7 +49,7 @@ enum {
     SIM7000_IMEI = 11,                /* its start; its end; 1 for a version number (sixteen digits, IMEISV), 0 for an IMEI (fifteen) */
     SIM7000_SMS_MESSAGE_FORMAT = 12,  /* 0 Pdu, 1 Text */
     SIM7000_SMS_MESSAGE = 13,         /* the sender's start; its end */
-    SIM7000_GNSS_REPORT = 14,         /* 0 NotEnabled; or 1 NoFix, 1 or 0, satellites in view; or 2 Fix, year, month, day, hour, minute, second,
+    SIM7000_GNSS_REPORT = 14,         /* 0 NotEnabled; or 1 NoFix, 1 or 0, satellites in view; or 2 Fix, year, month, day, hour, minute, second (a date that exists),
                                          latitude, longitude, altitude, speed_over_ground, course_over_ground, hdop, pdop, vdop,
                                          sat_gps_in_view, sat_gnss_used, sat_glonass_used, signal_noise_ratio */
     SIM7000_NETWORK_REGISTRATION = 15 /* status 0 to 5; 1 or 0; lac; 1 or 0; ci */
@@ -56,7 +57,7 @@ enum {
 
 #define SIM7000_VALUES 20
 
-/* The line without its CR LF: 0, with all the values set; or 1, 2, 4 or 3. */
+/* The line without its CR LF: 0, with all the values set; or 1, 2, then 4 or 13, then 3. */
 uint8_t sim7000_read_line(const uint8_t *line, size_t line_len, uint64_t values[SIM7000_VALUES]);
 
 /* The same without values: the reader, or SIM7000_REFUSED and the refusal. */

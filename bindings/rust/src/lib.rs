@@ -15,7 +15,7 @@ pub use command::Request;
 pub use desk::{Desk, Event, Fed};
 pub use read::*;
 
-/// A refusal number of documents 01 and 02: 1 to 10, or 12.
+/// A refusal number of documents 01 and 02: 1 to 10, 12 or 13.
 #[derive(Debug, Clone, Copy, PartialEq, Eq)]
 pub struct Refusal(pub u8);
 
@@ -33,6 +33,7 @@ impl core::fmt::Display for Refusal {
             9 => "an unfinished line is held or being dropped",
             10 => "a text buffer under 256 bytes",
             12 => "an operator number is not five or six digits",
+            13 => "a fix has no date that exists",
             _ => "unknown",
         };
         write!(f, "refused with {}: {}", self.0, why)

@@ -27,6 +27,16 @@ fn lines_of_the_documents() {
         Line::Response(ResponseCode::OperatorInfo(OperatorInfo { mode: OperatorMode::Automatic, format: OperatorFormat::Long, operator_name: b"" }))
     );
     assert_eq!(read("+UGNSINF: 0,,,,,,,,,,,,,,,,,,,,"), Line::Unsolicited(Urc::GnssReport(GnssReport::NotEnabled)));
+    let date_time = DateTime { year: 2000, month: 2, day: 29, hour: 23, minute: 59, second: 58 };
+    for date in ["20000229235958", "20000229235958.5"] {
+        let line = fix(date, "59.5");
+        assert!(matches!(read(&line), Line::Unsolicited(Urc::GnssReport(GnssReport::Fix(fix))) if fix.date_time == date_time && fix.latitude == 59.5));
+    }
+}
+
+/// A fix on this date, in the modem's 21 fields.
+fn fix(date: &str, latitude: &str) -> String {
+    format!("+UGNSINF: 1,1,{},{},18.25,44{}", date, latitude, ",".repeat(15))
 }
 
 #[test]
@@ -35,6 +45,14 @@ fn refusals_of_lines() {
     assert_eq!(Line::from_line(b"\xff"), Err(Refusal(2)));
     assert_eq!(Line::from_line(b""), Err(Refusal(3)));
     assert_eq!(Line::from_line(b"+CMGR: 0,\"123456789012345678901\",,"), Err(Refusal(4)));
+    for date in ["", "2024010203040", "20230229123456.000", "20240102030405.", "20240102030460", "19791231235959", "21000101000000", "+0240102030405"] {
+        for latitude in ["59.5", "x"] {
+            assert_eq!(Line::from_line(fix(date, latitude).as_bytes()), Err(Refusal(13)));
+            assert_eq!(sort_line(fix(date, latitude).as_bytes()), Err(Refusal(13)));
+        }
+    }
+    assert_eq!(Line::from_line(fix("20000229235958", "x").as_bytes()), Err(Refusal(3)));
+    assert_eq!(Refusal(13).to_string(), "refused with 13: a fix has no date that exists");
     assert_eq!(sort_line(b"OK"), Ok(1));
     assert_eq!(sort_line(b"+CREG: 1"), Ok(15));
     assert_eq!(sort_line(&[0xc0]), Err(Refusal(2)));
@@ -126,6 +144,28 @@ fn what_answers_gsn() {
     for number in [&b"490154203237517"[..], b"49015420323751", b"49015420323751810"] {
         assert_eq!(answered(number), [line(Event::Stray(3), number), line(Event::Short, b"OK")]);
     }
+}
+
+/// A fix on a day that was never is a stray, before the echo and after it, and nothing is closed by it.
+#[test]
+fn a_fix_without_a_date() {
+    let (bad, good) = (fix("20230229123456.000", "59.5"), fix("20240229123456.000", "59.5"));
+    let bytes = format!("{bad}\r\n{good}\r\nAT+CSQ\r\n{bad}\r\n+CSQ: 31,99\r\n{bad}\r\nOK\r\n{bad}\r\n");
+    let stray = line(Event::Stray(13), bad.as_bytes());
+    let expected = |echo| {
+        vec![
+            stray.clone(),
+            line(Event::Unsolicited, good.as_bytes()),
+            line(echo, b"AT+CSQ"),
+            stray.clone(),
+            line(Event::Taken, b"+CSQ: 31,99"),
+            stray.clone(),
+            line(Event::Done, b"OK"),
+            stray.clone(),
+        ]
+    };
+    assert_eq!(events(bytes.as_bytes(), 7), expected(Event::Stray(3)));
+    assert_eq!(echo_events(bytes.as_bytes(), 7), (expected(Event::Echo), false));
 }
 
 /// What an earlier command's late reply is in both modes.

@@ -12,7 +12,7 @@ use Rattle.text.specs.Bytes.{bytes, startsWith, same, allDigits}
 use Rattle.text.specs.Digit.{isDigit}
 use Rattle.text.specs.Number.{digitValue, below, digitsOf, magnitude, unsigned}
 use Rattle.text.specs.Part.{among, trimEnd}
-use Rattle.text.specs.Reading.{Reading, read, refused, only, mapped, firstOf}
+use Rattle.text.specs.Reading.{Reading, read, refused, only, mapped}
 use Rattle.text.proofs.Begins.{begins-with, begins-same}
 use Rattle.text.proofs.Parts.{from-start}
 use Rattle.text.proofs.Tests.{never, not-some, and-left, and-right, at-least, at-most}
@@ -28,7 +28,7 @@ use Rattle.at_command.specs.Csq.{csqText}
 use Rattle.at_command.specs.Generic.{okText, errorText, promptText, closeText}
 use Rattle.at_command.specs.Gsn.{imeiText}
 use Rattle.at_command.specs.Httptofs.{httptofsText}
-use Rattle.at_command.specs.Response.{Response, imei, readings, responseText}
+use Rattle.at_command.specs.Response.{Response, imei, readings}
 
 -- the line begins with "A", as commands do, or with "+U", or "+C" and one of these letters, as unsolicited lines do
 unfoldable pub reserved : List ℕ → Bool
@@ -195,11 +195,3 @@ module _ (l : List ℕ) (h : reserved l ≡ true) where
   no-readings =
       but-imei reserved reserved-wordless l h close-no iccid-no
       ∙ ap (λ (x : Reading Response). replicate 10 (refused 3) ++ x ∷ refused 3 ∷ refused 3 ∷ []) (refuses-3 (mapped imei (imeiText l)) (yields-mapped _ _ imei (imeiText l) imei-no))
-
-  pub no-response : responseText l ≡ refused 3
-  unfolding responseText firstOf
-  no-response = ap (firstOf 3) no-readings
-
--- of a line that begins with p, where all such lines are so; for the four prefixes of unsolicited lines that is `λ t. refl`, under `unfolding reserved`
-pub no-response-after : (p l : List ℕ) → ((t : List ℕ) → reserved (p ++ t) ≡ true) → startsWith p l ≡ true → responseText l ≡ refused 3
-no-response-after p l f e = no-response l (begins-with (λ (s : List ℕ). reserved s ≡ true) p l f e)

@@ -42,10 +42,13 @@ module _ (a : Asked) where
   echo-is P l e p q =
       ⊎-elim (λ f. subst P (sym (same-is l (commandOf a) f)) p) (λ f. subst P (sym (same-is l (bodyOf a) (ap (same l) (sym command-bare) ∙ (rw f at e)))) q) (both (same l (commandOf a)))
 
+  pub echo-front : (l : List ℕ) → isEcho (commandOf a) l ≡ true → startsWith (bytes "A") l ≡ true
+  echo-front l f = at-front l (echo-is (λ s. startsWith (bytes "AT+") s ≡ true) l f (command-begins a) (body-begins a))
+
   echo-apart : Apart (some (commandOf a))
   echo-apart l e =
       ⊎-elim
-      (λ f. absurd (never-sorted l (at-front l (echo-is (λ s. startsWith (bytes "AT+") s ≡ true) l f (command-begins a) (body-begins a))) unsolicited e))
+      (λ f. absurd (never-sorted l (echo-front l f) unsolicited e))
       (λ f. f)
       (both (isEcho (commandOf a) l))
 

@@ -1,12 +1,15 @@
 -- The runs of specs/Examples.antt, computed.
 use Prim.Native.Nat.{ℕ}
 use mathlib.Core.Path.{_≡_, refl, ap, _∙_}
+use mathlib.Core.Bool.{false}
+use mathlib.Core.Logic.{⊎-elim}
+use mathlib.Core.Option.{none, some}
 use mathlib.Core.List.{List, []}
 use lib.ListN.{replicate}
-use Rattle.text.specs.Bytes.{startsWith, same, endsWith, has}
+use Rattle.text.specs.Bytes.{bytes, startsWith, same, endsWith, has}
 use Rattle.text.specs.Line.{lineCheck, checked}
 use Rattle.text.specs.Number.{digitValue, digitsOf, valueOf, magnitude, unsigned, signed}
-use Rattle.text.specs.Reading.{Reading, read, only, either, sized, need, mapped, firstOf}
+use Rattle.text.specs.Reading.{Reading, read, only, either, sized, needElse, mapped, firstOf}
 use Rattle.text.specs.Utf8.{charSize, behind, utf8}
 use Rattle.at_command.specs.Ccid.{cardText, iccidText}
 use Rattle.at_command.specs.Cmgf.{cmgfText}
@@ -19,34 +22,50 @@ use Rattle.at_command.specs.Generic.{okText, errorText, promptText, closeText}
 use Rattle.at_command.specs.Gsn.{imeiText}
 use Rattle.at_command.specs.Httptofs.{httptofsText}
 use Rattle.at_command.specs.Response.{readings}
-use Rattle.at_command.specs.Request.{getSignalQuality, commandOf}
+use Rattle.at_command.specs.Request.{Asked, getSignalQuality, commandOf}
 use Rattle.at_command.specs.declared.request.Request.the-variants.{GetSignalQuality}
 use Rattle.unsolicited.specs.Gnss.{ugnsinfText}
 use Rattle.unsolicited.specs.Registration.{cregText, cgregText, ceregStatus, ceregFields, ceregText}
+use Rattle.unsolicited.specs.Undated.{Undated}
 use Rattle.unsolicited.specs.Urc.{urcReadings}
 use Rattle.desk.specs.Cut.{bare, cutOne}
 use Rattle.trial.specs.Answer.{allReadings, saidText, lineSaid}
 use Rattle.trial.specs.Sort.{lineSort}
+use Rattle.text.proofs.Begins.{begins-with}
+use Rattle.text.proofs.Tests.{both, never}
 use Rattle.trial.proofs.Equipment.{version-sort}
+use Rattle.trial.proofs.Order.{undated-sort}
 use Rattle.desk.specs.Machine.{tells, judgeAll}
 use Rattle.desk.specs.Lines.{cutter}
 use Rattle.desk.specs.Judge.{table, isEcho, ruling, judge}
 use Rattle.desk.specs.Rules.{Mode, rulesOf, Plain, plain}
 use Rattle.desk.specs.Desk.{State, desk, resetState}
 use Rattle.desk.specs.Keeps.{openedBy}
-use Rattle.desk.specs.Examples.{csq, Examples, VersionTaken}
+use Rattle.desk.specs.Examples.{csq, Examples, VersionTaken, UndatedStray}
 use Rattle.desk.specs.Demand.{accepts}
-use Rattle.desk.proofs.Commands.{command-some}
+use Rattle.desk.proofs.Commands.{echo-front, command-some}
 use Rattle.desk.proofs.Demand.{by-view, plain-ruled, open-fresh}
 use Rattle.desk.proofs.Lives.{open-accepts}
 
 pub examples : Examples
-unfolding judgeAll judge ruling isEcho table lineSort lineSaid saidText allReadings urcReadings checked lineCheck utf8 charSize behind tells cutter cutOne bare startsWith same endsWith has only either sized need mapped firstOf readings okText errorText promptText closeText iccidText cardText csqText csqRest csqCodes levelOf cpsiText copsText cntpText httptofsText imeiText cmgfText cmgrText ugnsinfText cregText cgregText ceregText ceregFields ceregStatus unsigned signed magnitude digitsOf digitValue valueOf
+unfolding judgeAll judge ruling isEcho table lineSort lineSaid saidText allReadings urcReadings checked lineCheck utf8 charSize behind tells cutter cutOne bare startsWith same endsWith has only either sized needElse mapped firstOf readings okText errorText promptText closeText iccidText cardText csqText csqRest csqCodes levelOf cpsiText copsText cntpText httptofsText imeiText cmgfText cmgrText ugnsinfText cregText cgregText ceregText ceregFields ceregStatus unsigned signed magnitude digitsOf digitValue valueOf
 examples = record { shown = refl; echoed = refl; fault = refl }
 
 pub version-taken : VersionTaken
 unfolding judge ruling table
 version-taken l all h = rw (version-sort l all h)
+
+-- a line that begins with a plus is no echo
+no-echo : (a : Asked) (l : List ℕ) → Undated l → isEcho (commandOf a) l ≡ false
+unfolding startsWith
+no-echo a l u =
+    let other : startsWith (bytes "A") l ≡ false = begins-with (λ (s : List ℕ). startsWith (bytes "A") s ≡ false) (bytes "+UGNSINF: ") l (λ t. refl) (u .front) in
+    ⊎-elim (λ f. let g = echo-front a l f in never (cc)) (λ f. f) (both (isEcho (commandOf a) l))
+
+pub undated-stray : UndatedStray
+unfolding judge ruling table
+undated-stray l p u none ks = rw (undated-sort l p u)
+undated-stray l p u (some a) ks = rw (no-echo a l u, undated-sort l p u)
 
 -- A command is given up with a reset, and the next is opened: whatever the desk's past, it tells what these rules give.
 pub after-reset : (mode : Mode) (s : State) (given : List ℕ) → tells desk (openedBy mode (resetState s) GetSignalQuality [] [] (replicate 256 0) .state) given ≡ rulesOf (csq mode) given

@@ -1,15 +1,18 @@
 -- Runs worked out by the rules with AT+CSQ open, for a reader of the papers. Document 01's: an unsolicited line comes before the two answers. And document 02's,
--- CR 4: the answers of an AT+CSQ that was given up come late, in both modes; and what Echo stands in place of. Last, with AT+GSN open, CR 3: sixteen digits are an answer.
+-- CR 4: the answers of an AT+CSQ that was given up come late, in both modes; and what Echo stands in place of. With AT+GSN open, CR 3: sixteen digits are an answer. Last, CR 8: what a fix without a date is.
 use Prim.Native.Nat.{ℕ}
 use mathlib.Core.Path.{_≡_}
 use mathlib.Core.Bool.{true}
 use mathlib.Core.List.{List, [], _∷_}
+use mathlib.Core.Option.{Option, Option·map}
 use lib.ListN.{length}
 use Rattle.text.specs.Bytes.{bytes, allDigits}
+use Rattle.text.specs.Line.{lineCheck}
 use Rattle.text.specs.Reading.{read}
-use Rattle.at_command.specs.Kind.{genericOk}
-use Rattle.at_command.specs.Request.{Asked, getSignalQuality, getImei, Numbers, encodeReading}
+use Rattle.at_command.specs.Kind.{Kind, genericOk}
+use Rattle.at_command.specs.Request.{Asked, getSignalQuality, getImei, Numbers, commandOf, encodeReading}
 use Rattle.trial.specs.Sort.{lineSort}
+use Rattle.unsolicited.specs.Undated.{Undated}
 use Rattle.desk.specs.Lines.{line}
 use Rattle.desk.specs.Judge.{Event, Taken, Done, Stray, Unsolicited, Echo, Seen, Command, awaiting, stays, table, isEcho, judge}
 use Rattle.desk.specs.Rules.{Mode, plainMode, echoMode, commandFor, rulesOf}
@@ -44,3 +47,12 @@ EchoForStray = (a : Asked) (room : ℕ) (w : List ℕ) → Numbers a → encodeR
 -- Every line of sixteen digits is an answer to AT+GSN: it is taken, and OK is awaited next. In echo mode this is the command after its echo.
 abbrev pub VersionTaken : Type 0
 VersionTaken = (l : List ℕ) → allDigits l ≡ true → length l ≡ 16 → judge lineSort (commandFor plainMode getImei) (line l) ≡ record { command = awaiting (genericOk ∷ []); event = seen Taken l }
+
+-- a command that awaits the echo of a request, or no echo any more, and these answers, or none
+abbrev pub awaitingWith : Option Asked → List Kind → Command
+awaitingWith echo ks = record { echo = Option·map commandOf echo; awaited = ks }
+
+-- A fix without a date is a Stray 13 to every command, and it stays as it was: idle, open in either mode, before the echo and after it.
+abbrev pub UndatedStray : Type 0
+UndatedStray = (l : List ℕ) → lineCheck l ≡ 0 → Undated l → (echo : Option Asked) (ks : List Kind)
+    → judge lineSort (awaitingWith echo ks) (line l) ≡ record { command = awaitingWith echo ks; event = seen (Stray 13) l }

@@ -7,4 +7,5 @@ pub mod One
 pub mod Desks
 pub mod Demand
 pub mod ManualOperator
+pub mod Dates
 pub mod Lives

@@ -1,14 +1,16 @@
--- Bytes in a range: those of two texts together, and of two parts, in a wider range, and none below it; digits are printable. A line of ASCII bytes is UTF-8, and passes the check if it is not too long. Assumes nothing.
+-- Bytes in a range: those of two texts together, and of two parts, in a wider range, and none below it; digits are printable, and each of them is a digit. A line of ASCII bytes is UTF-8, and passes the check if it is not too long. Assumes nothing.
 use mathlib.Core.Path.{_≡_, refl, ap, sym, _∙_}
 use mathlib.Core.Bool.{Bool, true, _&&_, and-assoc}
 use mathlib.Core.List.{List, [], _∷_, _++_}
-use Prim.Native.Nat.{ℕ, _≤_, _<_}
+use Prim.Native.Nat.{ℕ, _+_, _≤_, _<_}
 use native.Mathlib.Omega.{arith}
-use lib.ListN.{length, take, drop, take-append-drop}
+use lib.ListN.{length, getD, take, drop, take-append-drop}
 use borrow.Author.Tests.{le-leb, ne-eqb}
 use Rattle.text.specs.Bytes.{within, countOf, allWithin, allDigits}
+use Rattle.text.specs.Digit.{isDigit}
 use Rattle.text.specs.Line.{lineCheck}
 use Rattle.text.specs.Utf8.{behind, utf8}
+use Rattle.text.proofs.AtIndex.{at-next}
 use Rattle.text.proofs.LineLaws.{check-good}
 use Rattle.text.proofs.Tests.{and-left, and-right, at-least, at-most}
 use Rattle.text.proofs.Utf8Laws.{utf8-ascii}
@@ -37,6 +39,19 @@ module _ (lo hi : ℕ) where
 
 pub digits-printable : (s : List ℕ) → allDigits s ≡ true → allWithin 32 126 s ≡ true
 digits-printable = within-wider 48 57 32 126 (omega arith) (omega arith)
+
+module _ (s : List ℕ) (i : ℕ) (all : allDigits (drop i s) ≡ true) (h : i < length s) where
+  split : isDigit (getD s i 0) && allDigits (drop (i + 1) s) ≡ true
+  split = ap allDigits (sym (at-next s i h)) ∙ all
+
+  pub is-digit : isDigit (getD s i 0) ≡ true
+  is-digit = and-left (isDigit (getD s i 0)) _ split
+
+  pub digits-on : allDigits (drop (i + 1) s) ≡ true
+  digits-on = and-right (isDigit (getD s i 0)) _ split
+
+pub digit-at : (s : List ℕ) (i : ℕ) → allDigits s ≡ true → i < length s → isDigit (getD s i 0) ≡ true
+digit-at s i all h = is-digit s i (within-parts 48 57 i s all .1) h
 
 pub ascii-utf8 : (s : List ℕ) → allWithin 0 0x7F s ≡ true → utf8 s ≡ true
 unfolding utf8 behind

@@ -1,12 +1,12 @@
--- The line check: what `check_line` gives, the two ways on of a reader that calls it first, and two such readers one after the other.
-use mathlib.Core.Path.{_≡_}
+-- The line check: what `check_line` gives, the two ways on of a reader that calls it first, and which refusals are the reader's own.
+use mathlib.Core.Path.{_≡_, refl}
 use mathlib.Core.Bool.{Bool, true, false, cond}
 use mathlib.Core.List.{List}
 use Prim.Native.Nat.{ℕ, _≤_, _<_}
 use native.Mathlib.Omega.{arith}
-use lib.Dec.{ltb}
+use lib.Dec.{eqb, ltb}
 use lib.ListN.{length}
-use borrow.Author.Tests.{eq-eqb, ne-eqb, lt-ltb, le-ltb}
+use borrow.Author.Tests.{eq-eqb, ne-eqb, eqb-true, lt-ltb, le-ltb}
 use Rattle.text.specs.Line.{lineCheck, checked}
 use Rattle.text.specs.Reading.{Reading, refused}
 use Rattle.text.specs.Utf8.{utf8}
@@ -45,3 +45,12 @@ check-low s = go (ltb 256 (length s)) (utf8 s)
     go true v = omega arith
     go false true = omega arith
     go false false = omega arith
+
+-- so a refusal above 2 is the reader's own
+pub own-refusal : {A : Type 0} (reader : List ℕ → Reading A) (s : List ℕ) (k : ℕ) → 2 < k → checked reader s ≡ refused k → (lineCheck s ≡ 0) × (reader s ≡ refused k)
+unfolding checked
+own-refusal reader s k h = go (eqb (lineCheck s) 0) (eqb-true (lineCheck s) 0)
+  where
+    go : (t : Bool) → (t ≡ true → lineCheck s ≡ 0) → cond t (reader s) (refused (lineCheck s)) ≡ refused k → (lineCheck s ≡ 0) × (reader s ≡ refused k)
+    go true f e = (f refl, e)
+    go false f e = let z : lineCheck s ≡ k = cc in let l = check-low s in absurd (omega arith)

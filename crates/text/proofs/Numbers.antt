@@ -199,7 +199,7 @@ not-i32 base = not-said (i32 base)
 
 pub read-i32 : {B : Type 0} (base : ℕ) (k : ℤ → Reading B) (t s : List ℕ) (r : ParsedI32) (n : ℤ) (q : Reading B)
     → saysI32 r ≡ signed base 2147483647 t → t ≡ s → r ≡ IsI32 n → q ≡ k (toZ w32 (ofZ w32 n)) → q ≡ need (signed base 2147483647 s) k
-read-i32 base k t s r n q h i e z = need-so (signed base 2147483647 s) (toZ w32 (ofZ w32 n)) k q (is-i32 base t s r n h i e) z
+read-i32 base k t s r n q h i e z = need-so 3 (signed base 2147483647 s) (toZ w32 (ofZ w32 n)) k q (is-i32 base t s r n h i e) z
 
 pub miss-i32 : {B : Type 0} (base : ℕ) (k : ℤ → Reading B) → Miss (i32 base) k
 miss-i32 base k = stops (i32 base) k

@@ -1,17 +1,17 @@
 -- The steps of a reader: what the code tested, and what it learnt of a call, picks the case of its paper definition. Each premise is spelled
 -- as the code's test or the callee's promise has it, so that `search reader` closes a reader's answers. Assumes nothing.
 use mathlib.Core.Path.{_≡_, refl, ap, sym, _∙_, subst}
-use mathlib.Core.Bool.{Bool, true, false, not, _||_}
+use mathlib.Core.Bool.{Bool, true, false, cond, not, _||_}
 use mathlib.Core.List.{List, [], _∷_}
 use mathlib.Core.Option.{Option, none, some}
 use Prim.Native.Nat.{ℕ, _≤_, _<_}
 use lib.Dec.{eqb, leb}
 use lib.ListN.{length}
-use borrow.Author.Tests.{eq-eqb, ne-eqb, le-leb, lt-leb, not-true, not-false}
+use borrow.Author.Tests.{eq-eqb, ne-eqb, eqb-true, le-leb, lt-leb, not-true, not-false}
 use Rattle.text.specs.Bytes.{same, has}
 use Rattle.text.specs.Part.{before, after, trimmed}
 use Rattle.text.specs.Field.{fields, nth}
-use Rattle.text.specs.Reading.{Reading, read, refused, only, either, need, sized, fitting, mapped, each, worse, firstOf}
+use Rattle.text.specs.Reading.{Reading, read, refused, only, either, need, needElse, sized, fitting, mapped, each, worse, firstOf}
 
 module _ {A : Type 0} where
   pub only-not : (t x : Bool) (r : Reading A) → x ≡ t → x ≡ false → refused 3 ≡ only t r
@@ -112,24 +112,24 @@ module _ (k c n : ℕ) (e : k ≡ c) where
 pub ruleset counted = (listed-here, listed-later, listed, unlisted, only-listed, only-unlisted)
 
 module _ {A B : Type 0} where
-  pub need-not : (o : Option A) (f : A → Reading B) → none ≡ o → refused 3 ≡ need o f
-  unfolding need
-  need-not o f e = rw (sym e)
+  pub need-not : (k : ℕ) (o : Option A) (f : A → Reading B) → none ≡ o → refused k ≡ needElse k o f
+  unfolding needElse
+  need-not k o f e = rw (sym e)
 
-  pub need-so : (o : Option A) (a : A) (f : A → Reading B) (q : Reading B) → some a ≡ o → q ≡ f a → q ≡ need o f
-  unfolding need
-  need-so o a f q e p = rw (sym e) p
+  pub need-so : (k : ℕ) (o : Option A) (a : A) (f : A → Reading B) (q : Reading B) → some a ≡ o → q ≡ f a → q ≡ needElse k o f
+  unfolding needElse
+  need-so k o a f q e p = rw (sym e) p
 
 -- what the code has as the answer r of an enum R to a part t, and the paper as h of the same part s: given how f says r, h, a constructor and how
 -- that is said
 module _ {R A B : Type 0} (f : R → Option A) (h : List ℕ → Option A) where
   module _ {W : Type 0} (con : W → R) (val : W → A) (is : (w : W) → f (con w) ≡ some (val w)) where
     pub got : (t s : List ℕ) (g : A → Reading B) (r : R) (w : W) (q : Reading B) → f r ≡ h t → t ≡ s → r ≡ con w → q ≡ g (val w) → q ≡ need (h s) g
-    got t s g r w q k z e p = need-so (h s) (val w) g q (sym (is w) ∙ ap f (sym e) ∙ k ∙ ap h z) p
+    got t s g r w q k z e p = need-so 3 (h s) (val w) g q (sym (is w) ∙ ap f (sym e) ∙ k ∙ ap h z) p
 
   module _ (con : R) (is : f con ≡ none) where
     pub lacked : (t s : List ℕ) (g : A → Reading B) (r : R) → f r ≡ h t → t ≡ s → r ≡ con → refused 3 ≡ need (h s) g
-    lacked t s g r k z e = need-not (h s) g (sym is ∙ ap f (sym e) ∙ k ∙ ap h z)
+    lacked t s g r k z e = need-not 3 (h s) g (sym is ∙ ap f (sym e) ∙ k ∙ ap h z)
 
 -- a test on a part that the code has under the name t
 pub same-via : (x : Bool) (t s p : List ℕ) → x ≡ same t p → t ≡ s → x ≡ same s p
@@ -195,6 +195,32 @@ unfolding firstOf mapped
 first-each f j [] = refl
 first-each f j (read a ∷ rs) = refl
 first-each f j (refused k ∷ rs) = first-each f (worse j k) rs
+
+-- of three refusals it does not matter which two are joined first, and 3 is lost beside another
+worse-assoc : (j k i : ℕ) → worse j (worse k i) ≡ worse (worse j k) i
+worse-assoc j k i = go (eqb j 3) refl
+  where
+    go : (t : Bool) → eqb j 3 ≡ t → cond t (worse k i) j ≡ worse (cond t k j) i
+    go true e = refl
+    go false e = rw e
+
+worse-three : (j : ℕ) → worse j 3 ≡ j
+worse-three j = go (eqb j 3) (eqb-true j 3)
+  where
+    go : (t : Bool) → (t ≡ true → j ≡ 3) → cond t 3 j ≡ j
+    go true e = sym (e refl)
+    go false e = refl
+
+-- so a trial may stand in another as one of its readers
+module _ {A : Type 0} where
+  in-trial : (j k : ℕ) (rs : List (Reading A)) → firstOf j (firstOf k rs ∷ []) ≡ firstOf (worse j k) rs
+  unfolding firstOf
+  in-trial j k [] = refl
+  in-trial j k (read a ∷ rs) = refl
+  in-trial j k (refused i ∷ rs) = in-trial j (worse k i) rs ∙ ap (λ (n : ℕ). firstOf n rs) (worse-assoc j k i)
+
+  pub first-whole : (j : ℕ) (rs : List (Reading A)) → firstOf j (firstOf 3 rs ∷ []) ≡ firstOf j rs
+  first-whole j rs = in-trial j 3 rs ∙ ap (λ (n : ℕ). firstOf n rs) (worse-three j)
 
 -- the same for a reader whose answer r is of an enum R, which f says on paper: given f, a constructor and how it is said
 module _ {R A B : Type 0} (f : R → Reading A) where

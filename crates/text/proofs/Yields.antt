@@ -7,10 +7,9 @@ use mathlib.Core.Option.{Option, none, some}
 use Prim.Native.Nat.{ℕ}
 use lib.Dec.{eqb, leb}
 use lib.ListN.{length}
-use borrow.Author.Tests.{eqb-true}
 use Rattle.text.specs.Bytes.{within}
 use Rattle.text.specs.Line.{lineCheck, checked}
-use Rattle.text.specs.Reading.{Reading, read, refused, only, either, sized, fitting, need, mapped, worse, firstOf}
+use Rattle.text.specs.Reading.{Reading, read, refused, only, either, sized, fitting, needElse, mapped, worse, firstOf}
 
 abbrev pub Yields : {A : Type 0} → (A → Type 0) → (ℕ → Type 0) → Reading A → Type 0
 Yields Q R (read a) = Q a
@@ -54,8 +53,8 @@ module _ {A : Type 0} (Q : A → Type 0) (R : ℕ → Type 0) where
   unfolding either
   yields-either = yields-cond
 
-  pub yields-need : {B : Type 0} (o : Option B) (f : B → Reading A) → R 3 → ((b : B) → o ≡ some b → Yields Q R (f b)) → Yields Q R (need o f)
-  unfolding need
+  pub yields-need : {B : Type 0} {k : ℕ} (o : Option B) (f : B → Reading A) → R k → ((b : B) → o ≡ some b → Yields Q R (f b)) → Yields Q R (needElse k o f)
+  unfolding needElse
   yields-need none f n h = n
   yields-need (some b) f n h = h b refl
 
@@ -72,11 +71,11 @@ module _ {A : Type 0} (Q : A → Type 0) (R : ℕ → Type 0) where
   unfolding firstOf
   yields-first j [] n h = n
   yields-first j (read a ∷ rs) n h = h .0
-  yields-first j (refused k ∷ rs) n h = yields-first (worse j k) rs (go (eqb j 4) refl) (h .1)
+  yields-first j (refused k ∷ rs) n h = yields-first (worse j k) rs (go (eqb j 3)) (h .1)
     where
-      go : (t : Bool) → eqb j 4 ≡ t → R (cond t 4 k)
-      go true e = subst R (eqb-true j 4 e) n
-      go false e = h .0
+      go : (t : Bool) → R (cond t k j)
+      go true = h .0
+      go false = n
 
 -- under another name
 pub yields-mapped : {A B : Type 0} (Q : B → Type 0) (R : ℕ → Type 0) (f : A → B) (x : Reading A) → Yields (λ (a : A). Q (f a)) R x → Yields Q R (mapped f x)

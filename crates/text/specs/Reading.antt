@@ -34,10 +34,14 @@ module _ {A : Type 0} where
   fitting n t r = cond (leb (length t) n) r (refused 4)
 
 module _ {A B : Type 0} where
-  -- what f reads with the value, which is there, else refusal 3
-  unfoldable pub need : Option A → (A → Reading B) → Reading B
-  need none f = refused 3
-  need (some a) f = f a
+  -- what f reads with the value, which is there, else refusal k
+  unfoldable pub needElse : ℕ → Option A → (A → Reading B) → Reading B
+  needElse k none f = refused k
+  needElse k (some a) f = f a
+
+  -- the same with refusal 3
+  abbrev pub need : Option A → (A → Reading B) → Reading B
+  need o f = needElse 3 o f
 
   -- the value that was read, under another name
   unfoldable pub mapped : (A → B) → Reading A → Reading B
@@ -49,12 +53,13 @@ module _ {A B : Type 0} where
   each f [] = []
   each f (r ∷ rs) = mapped f r ∷ each f rs
 
--- the refusal of readers tried one after the other: 4 where one said 4, else what the last said (document 01, "Refusal numbers", 3, 4 and the order 1, 2, 4, 3)
+-- the refusal of readers tried one after the other: 3 gives way to what a later one says, and no other refusal does (document 01, "Refusal numbers", 3, 4 and
+-- the order of lines, which document 02, CR 8, makes 1, 2, then 4 or 13, then 3)
 abbrev pub worse : ℕ → ℕ → ℕ
-worse j k = cond (eqb j 4) 4 k
+worse j k = cond (eqb j 3) k j
 
 module _ {A : Type 0} where
-  -- readers in order of trial: the first that accepts, else 4 where one said 4, else 3, since a reader refuses with 3 or 4 (trial/proofs/Turns.antt: text-refuses)
+  -- readers in order of trial: the first that accepts, else 4 or 13 where one said so, else 3. No line gets both 4 and 13 (trial/specs/Refusals.antt: NeverBoth)
   unfoldable pub firstOf : ℕ → List (Reading A) → Reading A
   firstOf j [] = refused j
   firstOf j (read a ∷ rs) = read a

@@ -4,11 +4,13 @@ use Prim.Native.Nat.{ℕ}
 use mathlib.Core.Path.{_≡_, refl}
 use mathlib.Core.Bool.{Bool, true, false, _||_}
 use mathlib.Core.List.{List, [], _∷_}
+use lib.ListN.{replicate}
 use Rattle.text.specs.Bytes.{bytes, startsWith}
 use Rattle.text.specs.Reading.{Reading, refused, only, mapped, each}
+use Rattle.text.proofs.Begins.{begins-with}
 use Rattle.text.proofs.Tests.{never}
-use Rattle.at_command.specs.Response.{responseText}
-use Rattle.at_command.proofs.NoResponse.{reserved, no-response-after}
+use Rattle.at_command.specs.Response.{readings}
+use Rattle.at_command.proofs.NoResponse.{reserved, no-readings}
 use Rattle.unsolicited.specs.Gnss.{Report, ugnsinfText}
 use Rattle.unsolicited.specs.Registration.{Registration, cregText, cgregText, ceregText}
 use Rattle.unsolicited.specs.Urc.{gnss, registration, urcReadings, begins}
@@ -25,14 +27,18 @@ begun {P} l = go (startsWith (bytes "+UGNSINF: ") l) (startsWith (bytes "+CREG: 
     go false false true d e f g h k = h refl
     go false false false d e f g h k = k e
 
-pub responses-not : (l : List ℕ) → begins l ≡ true → responseText l ≡ refused 3
+begun-reserved : (l : List ℕ) → begins l ≡ true → reserved l ≡ true
 unfolding reserved
-responses-not l e =
+begun-reserved l e =
+    let P : List ℕ → Type 0 = λ s. reserved s ≡ true in
     begun l e
-    (no-response-after (bytes "+UGNSINF: ") l (λ t. refl))
-    (no-response-after (bytes "+CREG: ") l (λ t. refl))
-    (no-response-after (bytes "+CGREG: ") l (λ t. refl))
-    (no-response-after (bytes "+CEREG: ") l (λ t. refl))
+    (begins-with P (bytes "+UGNSINF: ") l (λ t. refl))
+    (begins-with P (bytes "+CREG: ") l (λ t. refl))
+    (begins-with P (bytes "+CGREG: ") l (λ t. refl))
+    (begins-with P (bytes "+CEREG: ") l (λ t. refl))
+
+pub responses-not : (l : List ℕ) → begins l ≡ true → readings l ≡ replicate 13 (refused 3)
+responses-not l e = no-readings l (begun-reserved l e)
 
 pub urcs-not : (l : List ℕ) → begins l ≡ false → urcReadings l ≡ refused 3 ∷ refused 3 ∷ refused 3 ∷ refused 3 ∷ []
 unfolding begins urcReadings ugnsinfText cregText cgregText ceregText only mapped

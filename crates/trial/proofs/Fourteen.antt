@@ -5,7 +5,7 @@ use Rattle.text.specs.Part.{partOf, trimPlace}
 use Rattle.text.specs.Number.{digitValue, digitsOf, valueOf, magnitude, unsigned, signed}
 use Rattle.text.specs.Utf8.{charSize, behind, utf8}
 use Rattle.text.specs.Line.{lineCheck, checked}
-use Rattle.text.specs.Reading.{only, either, need, sized, fitting, mapped, firstOf}
+use Rattle.text.specs.Reading.{only, either, needElse, sized, fitting, mapped, firstOf}
 use Rattle.numeral.specs.Numeral as N
 use Rattle.numeral.specs.Numeral.{numeralText, floatOf}
 use Rattle.at_command.specs.Ccid.{iccidText, cardText}
@@ -28,7 +28,7 @@ use Rattle.trial.specs.says.Fourteen.{All}
 
 pub fourteen : All rows
 unfolding rows lineSaid saidText allReadings urcReadings readings
-    checked lineCheck utf8 behind charSize firstOf mapped only either need sized fitting startsWith same endsWith has partOf trimPlace unsigned signed magnitude digitsOf digitValue valueOf
+    checked lineCheck utf8 behind charSize firstOf mapped only either needElse sized fitting startsWith same endsWith has partOf trimPlace unsigned signed magnitude digitsOf digitValue valueOf
     okText errorText promptText closeText iccidText cardText csqText csqRest csqCodes levelOf strengthOf dbmOf mul div ofInt round cpsiText copsText copsFields fieldOr nameOf cntpText
     httptofsText downloadOf imeiText cmgfText cmgrText
     ugnsinfText ugnsinfFields cregText cgregText ceregText registrationFields registrationAt ceregFields ceregStatus hexIn statusOf numeralText floatOf N.decimalOf N.behindSign N.unsigned

@@ -28,9 +28,9 @@ any = tt
 ruleset parts = (any, three, four, yields-only, yields-sized, yields-fitting, yields-either, yields-need, yields-mapped)
 
 module _ (l : List ℕ) where
-  all : AllYield (λ (r : Response). Unit {0}) Known (readings l)
+  pub all-known : AllYield (λ (r : Response). Unit {0}) Known (readings l)
   unfolding readings okText errorText promptText closeText iccidText cardText csqText csqRest csqCodes cpsiText cpsiFields copsText copsFields cntpText cntpRest httptofsText imeiText cmgfText cmgrText cmgrFields
-  all =
+  all-known =
       then (search parts depth 9)
       (then (search parts depth 9)
       (then (search parts depth 9)
@@ -48,4 +48,4 @@ module _ (l : List ℕ) where
 
   pub responses-refuse : Refuses (responseText l)
   unfolding responseText
-  responses-refuse = yields-first (λ (r : Response). Unit {0}) Known 3 (readings l) three all
+  responses-refuse = yields-first (λ (r : Response). Unit {0}) Known 3 (readings l) three all-known

@@ -1,19 +1,14 @@
 -- Both trials in turn, as one list, are the one trial that the line's front chooses.
-use Prim.Native.Nat.{ℕ, _≤_}
-use mathlib.Core.Path.{_≡_, refl, sym, ap, subst, _∙_}
+use Prim.Native.Nat.{ℕ}
+use mathlib.Core.Path.{_≡_, refl, sym, ap, _∙_}
 use mathlib.Core.Bool.{Bool, true, false, cond}
 use mathlib.Core.List.{List, [], _∷_, _++_}
-use native.Mathlib.Omega.{arith}
 use lib.Dec.{eqb}
 use Rattle.text.specs.Line.{lineCheck, checked}
 use Rattle.text.specs.Reading.{Reading, read, refused, mapped, each, firstOf, worse}
-use Rattle.text.proofs.LineLaws.{check-low}
 use Rattle.text.proofs.Readings.{first-each}
-use Rattle.text.proofs.Yields.{yields-mapped}
 use Rattle.at_command.specs.Response.{Response, readings, responseText}
 use Rattle.unsolicited.specs.Urc.{Unsolicited, urcReadings, urcText, begins}
-use Rattle.unsolicited.proofs.Trials.{Plain}
-use Rattle.unsolicited.proofs.Prefixes.{plain-urc}
 use Rattle.at_command.specs.says.Response.{ResponseCodeKeeps}
 use Rattle.at_command.specs.says.Response.{says as responseSays}
 use Rattle.at_command.specs.declared.ResponseCode.{ResponseCode}
@@ -28,7 +23,7 @@ use Rattle.trial.specs.says.Line.{LineKeeps}
 use Rattle.trial.specs.declared.Line.the-variants as L
 use Rattle.trial.specs.Answer.{Said, response, unsolicited, allReadings, saidText, lineSaid}
 use Rattle.trial.proofs.Apart.{responses-not, urcs-not}
-use Rattle.trial.proofs.Refusals.{Known, three, four, Refuses, responses-refuse}
+use Rattle.trial.proofs.Refusals.{three, four, Refuses, responses-refuse}
 
 -- what is read, or what the readers after it say
 abbrev orElse : {A : Type 0} → Reading A → List (Reading A) → Reading A
@@ -47,24 +42,15 @@ in-turn : (l : List ℕ) → saidText l ≡ orElse (mapped response (responseTex
 unfolding saidText allReadings responseText
 in-turn l = first-join 3 (each response (readings l)) _ ∙ ap (λ (r : Reading Said). orElse r (each unsolicited (urcReadings l))) (first-each response 3 (readings l))
 
-abbrev Low : Reading Said → Type 0
-Low (read s) = Unit {0}
-Low (refused k) = k ≤ 4
-
-low : (r : Reading Said) → Refuses r → Low r
-low (read s) h = tt
-low (refused k) three = omega arith
-low (refused k) four = omega arith
-
-plain-known : {A : Type 0} (r : Reading A) → Plain r → Refuses r
-plain-known (read a) p = tt
-plain-known (refused k) p = subst Known (sym p) three
-
 module _ (l : List ℕ) where
-  text-begun : begins l ≡ true → saidText l ≡ mapped unsolicited (urcText l)
+  pub response-not : begins l ≡ true → responseText l ≡ refused 3
+  unfolding responseText firstOf
+  response-not e = ap (firstOf 3) (responses-not l e)
+
+  pub text-begun : begins l ≡ true → saidText l ≡ mapped unsolicited (urcText l)
   unfolding mapped urcText
   text-begun e =
-      in-turn l ∙ ap (λ (r : Reading Response). orElse (mapped response r) (each unsolicited (urcReadings l))) (responses-not l e) ∙ first-each unsolicited 3 (urcReadings l)
+      in-turn l ∙ ap (λ (r : Reading Response). orElse (mapped response r) (each unsolicited (urcReadings l))) (response-not e) ∙ first-each unsolicited 3 (urcReadings l)
 
   pub text-other : begins l ≡ false → saidText l ≡ mapped response (responseText l)
   unfolding mapped firstOf
@@ -74,23 +60,6 @@ module _ (l : List ℕ) where
       go (read r) h = refl
       go (refused k) three = refl
       go (refused k) four = refl
-
-  -- so what the trial refuses, it refuses with 3 or 4
-  text-refuses : Refuses (saidText l)
-  text-refuses = go (begins l) refl
-    where
-      go : (t : Bool) → begins l ≡ t → Refuses (saidText l)
-      go true e = subst Refuses (sym (text-begun e)) (yields-mapped (λ (u : Said). Unit {0}) Known unsolicited (urcText l) (plain-known (urcText l) (plain-urc l)))
-      go false e = subst Refuses (sym (text-other e)) (yields-mapped (λ (u : Said). Unit {0}) Known response (responseText l) (responses-refuse l))
-
-  -- and a line, with 1 to 4
-  pub refusal-low : {k : ℕ} → refused k ≡ lineSaid l → k ≤ 4
-  unfolding lineSaid checked
-  refusal-low {k} e = subst Low (sym e) (go (eqb (lineCheck l) 0))
-    where
-      go : (t : Bool) → Low (cond t (saidText l) (refused (lineCheck l)))
-      go true = low (saidText l) text-refuses
-      go false = let h = check-low l in omega arith
 
   -- behind the one check of the line
   behind : {A : Type 0} (f : A → Said) (reader : List ℕ → Reading A) → saidText l ≡ mapped f (reader l) → lineSaid l ≡ mapped f (checked reader l)

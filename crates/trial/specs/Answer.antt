@@ -14,7 +14,7 @@ pub data Said : Type 0 where
 unfoldable pub allReadings : List ℕ → List (Reading Said)
 allReadings l = each response (readings l) ++ each unsolicited (urcReadings l)
 
--- the first that accepts; else 4 where one said 4; else 3
+-- the first that accepts; else 4 or 13 where one said so; else 3 (what a line is refused with: specs/Refusals.antt)
 unfoldable pub saidText : List ℕ → Reading Said
 saidText l = firstOf 3 (allReadings l)
 

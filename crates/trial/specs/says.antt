@@ -1,3 +1,4 @@
 pub mod Line
 pub mod Equipment
+pub mod Refusals
 pub mod Fourteen

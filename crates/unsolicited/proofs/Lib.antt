@@ -1,7 +1,11 @@
-pub mod DateCuts
+pub mod Calendars
+pub mod CalendarFacts
+pub mod Dates
 pub mod Examples
 pub mod One
 pub mod Prefixes
 pub mod Registrations
 pub mod Reports
 pub mod Trials
+pub mod Undated
+pub mod Written

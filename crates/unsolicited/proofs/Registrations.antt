@@ -3,7 +3,7 @@ use mathlib.Core.Path.{_≡_, refl, sym, ap}
 use mathlib.Core.Bool.{Bool, true, false, cond, _&&_, _||_, or-self-left}
 use mathlib.Core.List.{List, [], _∷_}
 use mathlib.Core.Option.{Option}
-use Prim.Native.Nat.{ℕ, _≤_, _<_, _-_}
+use Prim.Native.Nat.{ℕ, _≤_, _<_}
 use native.Mathlib.Omega.{arith}
 use lib.Dec.{eqb, leb}
 use lib.IntN.{ℤ, pos, negsuc}
@@ -17,8 +17,8 @@ use Rattle.text.specs.Field.{fields, nth}
 use Rattle.text.specs.Number.{signed}
 use Rattle.text.specs.Reading.{Reading, read}
 use Rattle.text.proofs.Readings.{via}
-use Rattle.unsolicited.specs.Registration.{Registration, statusOf, registrationAt, registrationFields, cregText, cgregText, ceregStatus, ceregFields, ceregText, registrationReadings, registrationText}
-use Rattle.text.proofs.Yields.{yields-only, yields-either, yields-need, yields-first}
+use Rattle.unsolicited.specs.Registration.{Registration, statusOf, registrationAt, registrationFields, cregText, cgregText, ceregStatus, ceregFields, ceregText}
+use Rattle.text.proofs.Yields.{yields-only, yields-either, yields-need}
 use Rattle.unsolicited.proofs.Trials.{Plain}
 
 -- `status_of` tests the bits of its number
@@ -84,7 +84,3 @@ plain-cgreg s = yields-only _ _ _ _ refl (λ e. plain-fields _ (fields 44 (drop 
 pub plain-cereg : (s : List ℕ) → Plain (ceregText s)
 unfolding ceregText ceregFields
 plain-cereg s = yields-only _ _ _ _ refl (λ e. yields-need _ _ _ _ refl (λ z h. tt))
-
-pub plain-registration : (s : List ℕ) → Plain (registrationText s)
-unfolding registrationText
-plain-registration s = yields-first _ _ 3 (registrationReadings s) refl (plain-creg s, (plain-cgreg s, (plain-cereg s, tt)))

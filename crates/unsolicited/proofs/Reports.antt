@@ -1,43 +1,43 @@
--- The parts of +UGNSINF: where its fields begin, what may be empty, and what the code's answers pick. Assumes nothing.
-use mathlib.Core.Path.{_≡_, refl, ap, sym, _∙_}
+-- The parts of +UGNSINF: where its fields begin, what may be empty, what the code's answers pick; and the date that a report has, or for want of which it is refused.
+-- Assumes nothing.
+use mathlib.Core.Path.{_≡_, refl, ap, sym, subst, _∙_}
 use mathlib.Core.Bool.{Bool, true, false, cond, _&&_}
 use mathlib.Core.List.{List}
-use mathlib.Core.Option.{Option, none, some, bind}
+use mathlib.Core.Option.{Option, none, some}
 use Prim.Native.Nat.{ℕ, _≤_, _<_}
 use native.Mathlib.Omega.{arith}
-use lib.Dec.{eqb, leb}
+use lib.Dec.{eqb}
 use lib.Ieee.{Float, binary32, ofBits, ofFields, fin}
 use lib.IntN.{pos}
 use lib.ListN.{length, getD, drop}
-use borrow.Author.Tests.{eq-eqb, ne-eqb, le-leb, lt-leb}
+use borrow.Author.Tests.{eq-eqb, ne-eqb, eqb-true}
 use Rattle.text.specs.Field.{fields, nth}
 use Rattle.text.specs.Reader.{FieldStartsKeeps}
-use Rattle.text.specs.Reading.{Reading, read, refused, only, need}
-use Rattle.text.specs.says.Number.{saysU8, saysU16, saysU32}
-use Rattle.text.specs.declared.number.ParsedU8.{ParsedU8}
-use Rattle.text.specs.declared.number.ParsedU8.the-variants as U8
-use Rattle.text.specs.declared.number.ParsedU16.{ParsedU16}
-use Rattle.text.specs.declared.number.ParsedU16.the-variants as U16
+use Rattle.text.specs.Reading.{Reading, read, refused, only, need, needElse}
+use Rattle.text.specs.says.Number.{saysU32}
 use Rattle.text.specs.declared.number.ParsedU32.{ParsedU32}
 use Rattle.text.specs.declared.number.ParsedU32.the-variants.{Is, Not}
 use Rattle.text.proofs.ReaderStarts.{starts-in, starts-past}
-use Rattle.text.proofs.Readings.{only-is, only-else}
-use Rattle.text.proofs.Tests.{never}
-use Rattle.text.proofs.Yields.{yields-only, yields-either, yields-need}
+use Rattle.text.proofs.Readings.{only-is, only-else, need-so, need-not}
+use Rattle.text.proofs.Tests.{never, not-some}
+use Rattle.text.proofs.Yields.{Yields, yields-only, yields-either, yields-need}
 use Rattle.numeral.specs.Numeral.{floatOf, numeralText}
 use Rattle.numeral.specs.says.Numeral.{says, NumeralKeeps}
 use Rattle.numeral.specs.declared.Numeral.{Numeral}
 use Rattle.numeral.specs.declared.Numeral.the-variants.{Value, Refused}
 use Rattle.unsolicited.specs.Date.{Date, dateOf}
-use Rattle.unsolicited.specs.Gnss.{Report, noFix, fix, orZero, floatOrZero, countOrZero, dateOrZero, fixOf, ugnsinfFields, ugnsinfText}
+use Rattle.unsolicited.specs.Gnss.{Report, notEnabled, noFix, fix, orZero, floatOrZero, countOrZero, fixOn, fixOf, ugnsinfFields, ugnsinfText}
 use Rattle.unsolicited.specs.Places.{Places}
-use Rattle.unsolicited.specs.says.Gnss.{floatSays, countSays, dateSays, dateOptionSays}
+use Rattle.unsolicited.specs.Undated.{fieldOf, Undated}
+use Rattle.unsolicited.specs.Written.{Says}
+use Rattle.unsolicited.proofs.Written.{read-so}
+use Rattle.unsolicited.proofs.Written.{said as said-so}
+use Rattle.unsolicited.specs.says.Gnss.{floatSays, countSays, dateSays, dateOptionSays, DateKeeps}
 use Rattle.unsolicited.specs.declared.ugnsinf.DateTime.{DateTime}
 use Rattle.unsolicited.specs.declared.ugnsinf.ParsedDateTime.{ParsedDateTime}
 use Rattle.unsolicited.specs.declared.ugnsinf.ParsedDateTime.the-variants.{Is as IsDate, Not as NotDate}
 use Rattle.unsolicited.specs.declared.ugnsinf.Float.{Float as Field}
 use Rattle.unsolicited.specs.declared.ugnsinf.Count.{Count}
-use Rattle.unsolicited.proofs.Trials.{Plain}
 
 -- what the numeral's answer says of a float field
 abbrev optionOf : Numeral → Option Float
@@ -45,7 +45,7 @@ optionOf (Value x) = some x
 optionOf Refused = none
 
 said : (o : Option Float) (r : Numeral) → says r ≡ need o read → optionOf r ≡ o
-unfolding need
+unfolding needElse
 said none Refused e = refl
 said none (Value x) e = never (cc)
 said (some y) Refused e = never (cc)
@@ -73,7 +73,7 @@ without-fix o p e = rw e
 
 -- a value that was read before it is asked for: the test t says whether it is there
 needed : {A B : Type 0} (t : Bool) (v : A) (o : Option A) (f : A → Reading B) → cond t (some v) none ≡ o → need o f ≡ only t (f v)
-unfolding need only
+unfolding needElse only
 needed true v o f e = rw (sym e)
 needed false v o f e = rw (sym e)
 
@@ -82,8 +82,8 @@ unfolding only
 only-and true b r = refl
 only-and false b r = refl
 
--- `gnss_fix`: twelve of them
-module _ (fs : List (List ℕ)) (la lo al sp co hd pd vd : Field) (iv gn gl ra : Count)
+-- `fix_on`: twelve of them
+module _ (d : Date) (fs : List (List ℕ)) (la lo al sp co hd pd vd : Field) (iv gn gl ra : Count)
     (e1 : floatSays la ≡ floatOf (nth 3 fs)) (e2 : floatSays lo ≡ floatOf (nth 4 fs)) (e3 : floatSays al ≡ floatOf (nth 5 fs))
     (e4 : floatSays sp ≡ floatOrZero (nth 6 fs)) (e5 : floatSays co ≡ floatOrZero (nth 7 fs))
     (e6 : floatSays hd ≡ floatOrZero (nth 10 fs)) (e7 : floatSays pd ≡ floatOrZero (nth 11 fs)) (e8 : floatSays vd ≡ floatOrZero (nth 12 fs))
@@ -91,8 +91,8 @@ module _ (fs : List (List ℕ)) (la lo al sp co hd pd vd : Field) (iv gn gl ra :
   abbrev good : Bool
   good = (la .good && lo .good && al .good) && (sp .good && co .good) && (hd .good && pd .good && vd .good) && (iv .good && gn .good && gl .good && ra .good)
 
-  abbrev value : Date → Report
-  value d = fix (record {
+  abbrev value : Report
+  value = fix (record {
     dateTime = d;
     latitude = la .value;
     longitude = lo .value;
@@ -108,61 +108,21 @@ module _ (fs : List (List ℕ)) (la lo al sp co hd pd vd : Field) (iv gn gl ra :
     signalNoiseRatio = ra .value;
   })
 
-  fix-is : fixOf fs ≡ only good (read (value (dateOrZero (nth 2 fs))))
-  unfolding fixOf
+  pub fix-is : only good (read value) ≡ fixOn d fs
+  unfolding fixOn
   fix-is =
       rw (needed (la .good) (la .value) _ _ e1, needed (lo .good) (lo .value) _ _ e2, needed (al .good) (al .value) _ _ e3, needed (sp .good) (sp .value) _ _ e4, needed (co .good) (co .value) _ _ e5, needed (hd .good) (hd .value) _ _ e6, needed (pd .good) (pd .value) _ _ e7, needed (vd .good) (vd .value) _ _ e8, needed (iv .good) (iv .value) _ _ e9, needed (gn .good) (gn .value) _ _ e10, needed (gl .good) (gl .value) _ _ e11, needed (ra .good) (ra .value) _ _ e12)
       (simp only-and)
 
-  pub fix-read : (d : Date) → d ≡ dateOrZero (nth 2 fs) → good ≡ true → read (value d) ≡ fixOf fs
-  unfolding only
-  fix-read d e h = rw (e, fix-is, h)
+-- `gnss_fix`: the field under the name t, and what `DateTime::new` answers to it
+module _ (fs : List (List ℕ)) (t : List ℕ) (r : ParsedDateTime) (keeps : DateKeeps t r) (is : t ≡ nth 2 fs) where
+  pub with-date : (d : DateTime) → r ≡ IsDate d → (q : Reading Report) → q ≡ fixOn (dateSays d) fs → q ≡ fixOf fs
+  unfolding fixOf
+  with-date d e q h = need-so 13 (dateOf (nth 2 fs)) (dateSays d) _ q (sym (ap dateOptionSays e) ∙ keeps ∙ ap dateOf is) h
 
-  pub fix-not : good ≡ false → refused 3 ≡ fixOf fs
-  unfolding only
-  fix-not h = rw (fix-is, h)
-
--- a date has at least fourteen bytes
-module _ {A : Type 0} (t : List ℕ) (o : Option A) where
-  pub too-short : length t < 14 → none ≡ cond (leb 14 (length t)) o none
-  too-short h = rw (lt-leb 14 (length t) h)
-
-  pub long-enough : (q : Option A) → 14 ≤ length t → q ≡ o → q ≡ cond (leb 14 (length t)) o none
-  long-enough q h p = rw (le-leb 14 (length t) h) p
-
--- and each of its parts is there, which the code has as the answer of an enum
-module _ (o : Option ℕ) (g : ℕ → Option Date) where
-  bound : (n : ℕ) (q : Option Date) → some n ≡ o → q ≡ g n → q ≡ bind o g
-  unfolding bind
-  bound n q e p = rw (sym e) p
-
-  unbound : none ≡ o → none ≡ bind o g
-  unfolding bind
-  unbound e = rw (sym e)
-
-  pub year-read : (r : ParsedU16) (n : ℕ) (q : Option Date) → saysU16 r ≡ o → r ≡ U16.Is n → q ≡ g n → q ≡ bind o g
-  year-read r n q h e p = bound n q (sym (ap saysU16 e) ∙ h) p
-
-  pub year-none : (r : ParsedU16) → saysU16 r ≡ o → r ≡ U16.Not → none ≡ bind o g
-  year-none r h e = unbound (sym (ap saysU16 e) ∙ h)
-
-  pub pair-read : (r : ParsedU8) (n : ℕ) (q : Option Date) → saysU8 r ≡ o → r ≡ U8.Is n → q ≡ g n → q ≡ bind o g
-  pair-read r n q h e p = bound n q (sym (ap saysU8 e) ∙ h) p
-
-  pub pair-none : (r : ParsedU8) → saysU8 r ≡ o → r ≡ U8.Not → none ≡ bind o g
-  pair-none r h e = unbound (sym (ap saysU8 e) ∙ h)
-
-pub ruleset dates = (long-enough, year-read, year-none, pair-read, pair-none)
-
--- the date that was read, or all zeros
-module _ (t s : List ℕ) (r : ParsedDateTime) (said : dateOptionSays r ≡ dateOf t) (is : t ≡ s) where
-  pub date-read : (d : DateTime) → r ≡ IsDate d → dateSays d ≡ dateOrZero s
-  unfolding dateOrZero
-  date-read d e = rw (← is, ← said, e)
-
-  pub date-zero : r ≡ NotDate → dateSays (record { year = 0; month = 0; day = 0; hour = 0; minute = 0; second = 0 }) ≡ dateOrZero s
-  unfolding dateOrZero
-  date-zero e = rw (← is, ← said, e)
+  pub without-date : r ≡ NotDate → refused 13 ≡ fixOf fs
+  unfolding fixOf
+  without-date e = need-not 13 (dateOf (nth 2 fs)) _ (sym (ap dateOptionSays e) ∙ keeps ∙ ap dateOf is)
 
 -- a field that may be empty, which the code has under the name t
 module _ {A : Type 0} (z : A) (reads : List ℕ → Option A) (t s : List ℕ) (is : t ≡ s) where
@@ -194,17 +154,43 @@ module _ (s ps : List ℕ) (starts : FieldStartsKeeps s ps) where
   pub there-so : getD ps 20 0 ≤ length s → length s < getD ps 21 0 → (r q : Reading Report) → q ≡ r → q ≡ only (eqb (length (fields 44 s)) 21) r
   there-so h l r q e = only-is (length (fields 44 s)) (length (fields 44 s)) 21 r q refl (all-there h l .count) e
 
--- no refusal but 3
-plain-need : {A : Type 0} (o : Option A) (f : A → Reading Report) → ((a : A) → Plain (f a)) → Plain (need o f)
-plain-need o f h = yields-need _ _ o f refl (λ a e. h a)
+-- a report that is read has the date of its third field, where it has a fix; what is refused is refused with 3, and with 13 for want of such a date
+abbrev pub Dated : List ℕ → Report → Type 0
+Dated l notEnabled = Unit {0}
+Dated l (noFix n) = Unit {0}
+Dated l (fix f) = Says (fieldOf 2 l) (f .dateTime)
 
-plain-fix : (fs : List (List ℕ)) → Plain (fixOf fs)
-unfolding fixOf
-plain-fix fs =
-    plain-need _ _ (λ a. plain-need _ _ (λ b. plain-need _ _ (λ c. plain-need _ _ (λ d. plain-need _ _ (λ e. plain-need _ _ (λ f.
-    plain-need _ _ (λ g. plain-need _ _ (λ h. plain-need _ _ (λ i. plain-need _ _ (λ j. plain-need _ _ (λ k. plain-need _ _ (λ l. tt))))))))))))
+pub data Refusal (l : List ℕ) : ℕ → Type 0 where
+  plain : Refusal l 3
+  undated : Undated l → Refusal l 13
 
-pub plain-ugnsinf : (s : List ℕ) → Plain (ugnsinfText s)
-unfolding ugnsinfText ugnsinfFields
-plain-ugnsinf s =
-    yields-only _ _ _ _ refl (λ e. yields-only _ _ _ _ refl (λ e. yields-either _ _ _ _ _ (λ e. yields-either _ _ _ _ _ (λ e. plain-fix (fields 44 (drop 10 s))) (λ e. tt)) (λ e. tt)))
+module _ (l : List ℕ) where
+  abbrev Reports : Reading Report → Type 0
+  Reports = Yields (Dated l) (Refusal l)
+
+  with-value : {A : Type 0} (o : Option A) (f : A → Reading Report) → ((a : A) → Reports (f a)) → Reports (need o f)
+  with-value o f h = yields-need _ _ o f plain (λ a e. h a)
+
+  on-date : (d : Date) (fs : List (List ℕ)) → Says (fieldOf 2 l) d → Reports (fixOn d fs)
+  unfolding fixOn
+  on-date d fs s =
+      with-value _ _ (λ a. with-value _ _ (λ b. with-value _ _ (λ c. with-value _ _ (λ d. with-value _ _ (λ e. with-value _ _ (λ f.
+      with-value _ _ (λ g. with-value _ _ (λ h. with-value _ _ (λ i. with-value _ _ (λ j. with-value _ _ (λ k. with-value _ _ (λ l. s))))))))))))
+
+  -- the date is looked for only where all else that `Undated` says holds
+  by-date : (fs : List (List ℕ)) → nth 2 fs ≡ fieldOf 2 l → (((d : Date) → Says (fieldOf 2 l) d → ⊥) → Undated l) → Reports (fixOf fs)
+  unfolding fixOf needElse
+  by-date fs is w = go (dateOf (nth 2 fs)) refl
+    where
+      go : (o : Option Date) → dateOf (nth 2 fs) ≡ o → Reports (needElse 13 o (λ d. fixOn d fs))
+      go none e = undated (w (λ d s. not-some (sym e ∙ read-so (nth 2 fs) d (subst (λ (t : List ℕ). Says t d) (sym is) s))))
+      go (some d) e = on-date d fs (subst (λ (t : List ℕ). Says t d) is (said-so (nth 2 fs) d e))
+
+  pub reports-so : Reports (ugnsinfText l)
+  unfolding ugnsinfText ugnsinfFields
+  reports-so =
+      let fs = fields 44 (drop 10 l) in
+      yields-only _ _ _ _ plain (λ front. yields-only _ _ _ _ plain (λ count.
+      yields-either _ _ _ _ _
+      (λ run. yields-either _ _ _ _ _ (λ fix. by-date fs refl (λ date. record { front = front; count = eqb-true (length fs) 21 count; run = run; fix = fix; date = date })) (λ e. tt))
+      (λ e. tt)))

@@ -1,8 +1,8 @@
--- +UGNSINF (document 01, "+UGNSINF"; ugnsinf.rs): the report of the satellite receiver, in exactly 21 fields, counted here from 0.
+-- +UGNSINF (document 01, "+UGNSINF", as document 02, CR 8, changes it; ugnsinf.rs): the report of the satellite receiver, in exactly 21 fields, counted here from 0.
 use Prim.Native.Nat.{ℕ}
 use mathlib.Core.Bool.{false, cond}
 use mathlib.Core.List.{List}
-use mathlib.Core.Option.{Option, some, Option·getD}
+use mathlib.Core.Option.{Option, some}
 use lib.Dec.{eqb}
 use lib.Ieee.{Float, fin}
 use lib.IntN.{pos}
@@ -10,7 +10,7 @@ use lib.ListN.{length, drop}
 use Rattle.text.specs.Bytes.{bytes, same, startsWith}
 use Rattle.text.specs.Field.{fields, nth}
 use Rattle.text.specs.Number.{unsigned}
-use Rattle.text.specs.Reading.{Reading, read, only, either, need}
+use Rattle.text.specs.Reading.{Reading, read, only, either, need, needElse}
 use Rattle.numeral.specs.Numeral.{floatOf}
 use Rattle.unsolicited.specs.Date.{Date, dateOf}
 
@@ -46,13 +46,9 @@ floatOrZero = orZero (fin false 0 (pos 0)) floatOf
 unfoldable pub countOrZero : List ℕ → Option ℕ
 countOrZero = orZero 0 (unsigned 10 4294967295)
 
--- the date, all zeros where it is unreadable
-unfoldable pub dateOrZero : List ℕ → Date
-dateOrZero t = Option·getD (dateOf t) (record { year = 0; month = 0; day = 0; hour = 0; minute = 0; second = 0 })
-
--- three that are required, then the rest, where empty is zero
-unfoldable pub fixOf : List (List ℕ) → Reading Report
-fixOf fs =
+-- what follows the date: three that are required, then the rest, where empty is zero
+unfoldable pub fixOn : Date → List (List ℕ) → Reading Report
+fixOn date fs =
     need (floatOf (nth 3 fs)) (λ latitude.
     need (floatOf (nth 4 fs)) (λ longitude.
     need (floatOf (nth 5 fs)) (λ altitude.
@@ -66,7 +62,7 @@ fixOf fs =
     need (countOrZero (nth 16 fs)) (λ glonass.
     need (countOrZero (nth 18 fs)) (λ ratio.
     read (fix (record {
-      dateTime = dateOrZero (nth 2 fs);
+      dateTime = date;
       latitude = latitude;
       longitude = longitude;
       altitude = altitude;
@@ -80,6 +76,10 @@ fixOf fs =
       satGlonassUsed = glonass;
       signalNoiseRatio = ratio;
     }))))))))))))))
+
+-- the date first: without one the line is refused with 13, whatever the others are (document 02, CR 8)
+unfoldable pub fixOf : List (List ℕ) → Reading Report
+fixOf fs = needElse 13 (dateOf (nth 2 fs)) (λ date. fixOn date fs)
 
 -- run status "1" is enabled, and fix status "1" a fix; without one, satellites in view are none if unreadable
 unfoldable pub ugnsinfFields : List (List ℕ) → Reading Report

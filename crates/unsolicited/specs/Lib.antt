@@ -1,6 +1,10 @@
+pub mod Calendar
+pub mod CalendarFacts
 pub mod Date
 pub mod Gnss
 pub mod Places
 pub mod Registration
+pub mod Undated
 pub mod Urc
+pub mod Written
 pub mod says

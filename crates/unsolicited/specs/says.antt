@@ -1,3 +1,4 @@
+pub mod Dates
 pub mod Gnss
 pub mod Registration
 pub mod Urc

@@ -1,4 +1,5 @@
 // The modem's unsolicited codes, a module for each file of the Rust's at_command/unsolicited, and their trial.
+mod calendar;
 pub mod cereg;
 pub mod cgreg;
 pub mod creg;
@@ -31,13 +32,14 @@ impl Urc {
     pub(crate) fn from_checked(line: &[u8]) -> UrcAnswer
         ensures { λ r. ⌜ says r ≡ urcText (now (line .entry)) ⌝ }
     {
-        if let GnssReportAnswer::Value(report) = GnssReport::from_checked(line) {
-            return UrcAnswer::Value(Urc::GnssReport(report));
-        }
+        let j = match GnssReport::from_checked(line) {
+            GnssReportAnswer::Value(report) => return UrcAnswer::Value(Urc::GnssReport(report)),
+            GnssReportAnswer::Refused(k) => k,
+        };
         match NetworkRegistration::from_checked(line) {
             NetworkRegistrationAnswer::Value(registration) =>
                 UrcAnswer::Value(Urc::NetworkRegistration(registration)),
-            NetworkRegistrationAnswer::Refused(k) => UrcAnswer::Refused(k),
+            NetworkRegistrationAnswer::Refused(k) => UrcAnswer::Refused(line::worse_of(j, k)),
         }
     }
 

@@ -1,23 +1,25 @@
 // +UGNSINF: the report of the satellite receiver.
+use crate::calendar;
 use numeral::Numeral;
 use text::bytes;
+use text::digit;
 use text::line;
 use text::number;
-use text::number::ParsedU8;
-use text::number::ParsedU16;
 use text::number::ParsedU32;
 use text::part;
 use text::reader;
 ghost use mathlib.Core.Path.{_≡_};
-ghost use Prim.Native.Nat.{_≤_, _<_};
-ghost use Rattle.text.specs.Bytes.{bytes, same};
+ghost use mathlib.Core.Bool.{true};
+ghost use Prim.Native.Nat.{_+_, _≤_, _<_};
+ghost use lib.ListN.{length};
+ghost use Rattle.text.specs.Bytes.{bytes, same, allDigits};
 ghost use Rattle.text.specs.Field.{fields, nth};
-ghost use Rattle.text.specs.says.Number.{saysU8, saysU16};
+ghost use Rattle.text.specs.Reading.{read, only};
 ghost use Rattle.numeral.specs.Numeral.{floatOf};
-ghost use Rattle.unsolicited.specs.Date.{yearOf, pairAt};
+ghost use Rattle.unsolicited.specs.Date.{figures, dateIn, existing, isFraction};
 ghost use Rattle.unsolicited.specs.Places.{Places};
-ghost use Rattle.unsolicited.specs.Gnss.{floatOrZero, countOrZero, dateOrZero, fixOf, ugnsinfFields, ugnsinfText};
-ghost use Rattle.unsolicited.specs.says.Gnss.{floatSays, countSays, dateSays, says, DateKeeps, GnssReportKeeps};
+ghost use Rattle.unsolicited.specs.Gnss.{fix, floatOrZero, countOrZero, fixOn, fixOf, ugnsinfFields, ugnsinfText};
+ghost use Rattle.unsolicited.specs.says.Gnss.{floatSays, countSays, dateSays, dateOptionSays, fixSays, says, DateKeeps, GnssReportKeeps};
 
 pub struct DateTime {
     pub year: u16,
@@ -33,54 +35,82 @@ pub enum ParsedDateTime {
     Not,
 }
 
-fn year_of(s: &[u8]) -> ParsedU16
-    ensures { λ r. ⌜ saysU16 r ≡ yearOf (now (s .entry)) ⌝ }
+// The number that the two digits from `at` on are.
+fn pair(s: &[u8], at: usize) -> u8
+    requires { ⌜ (allDigits (now s) ≡ true) × (at + 2 ≤ length (now s)) ⌝ }
+    ensures { λ r. ⌜ (r ≡ figures at (at + 2) (now (s .entry))) × (r ≤ 99) ⌝ }
 {
-    number::parse_u16(part::part(s, 0, 4))
+    10 * digit::value(s[at]) + digit::value(s[at + 1])
 }
 
-// The two bytes from `at` on.
-fn pair(s: &[u8], at: usize) -> ParsedU8
-    requires { ⌜ at ≤ 12 ⌝ }
-    ensures { λ r. ⌜ saysU8 r ≡ pairAt at (now (s .entry)) ⌝ }
+// The number that the first four digits are.
+fn year_of(s: &[u8]) -> u16
+    requires { ⌜ (allDigits (now s) ≡ true) × (4 ≤ length (now s)) ⌝ }
+    ensures { λ r. ⌜ r ≡ figures 0 4 (now (s .entry)) ⌝ }
 {
-    number::parse_u8(part::part(s, at, at + 2))
+    100 * pair(s, 0) as u16 + pair(s, 2) as u16
+}
+
+// What fourteen digits say.
+fn date_in(s: &[u8]) -> DateTime
+    requires { ⌜ (allDigits (now s) ≡ true) × (14 ≤ length (now s)) ⌝ }
+    ensures { λ r. ⌜ dateSays r ≡ dateIn (now (s .entry)) ⌝ }
+{
+    DateTime {
+        year: year_of(s),
+        month: pair(s, 4),
+        day: pair(s, 6),
+        hour: pair(s, 8),
+        minute: pair(s, 10),
+        second: pair(s, 12),
+    }
+}
+
+// The date, if there is such a day and time in the years 1980 to 2099; no month that is none has a day.
+fn existing_date(date: DateTime) -> ParsedDateTime
+    ensures { λ r. ⌜ dateOptionSays r ≡ existing (dateSays date) ⌝ }
+{
+    let days = calendar::days_in(date.year, date.month);
+    let year = (1980 <= date.year) & (date.year <= 2099);
+    let day = (1 <= date.day) & (date.day <= days);
+    let time = (date.hour <= 23) & (date.minute <= 59) & (date.second <= 59);
+    if year & day & time {
+        return ParsedDateTime::Is(date);
+    }
+    ParsedDateTime::Not
+}
+
+// Whether it is nothing, or a point and one or more digits.
+fn is_fraction(s: &[u8]) -> bool
+    ensures { λ r. ⌜ r ≡ isFraction (now (s .entry)) ⌝ }
+{
+    if s.len() == 0 {
+        return true;
+    }
+    if s.len() < 2 {
+        return false;
+    }
+    if s[0] != b'.' {
+        return false;
+    }
+    bytes::all_digits(part::skip(s, 1))
 }
 
 impl DateTime {
-    // A cut inside a character leaves a byte that is no digit (proofs/DateCuts).
     pub fn new(time_string: &[u8]) -> ParsedDateTime
         ensures { λ r. ⌜ DateKeeps (now («time_string» .entry)) r ⌝ }
     {
         if time_string.len() < 14 {
             return ParsedDateTime::Not;
         }
-        let ParsedU16::Is(year) = year_of(time_string) else {
+        let digits = part::part(time_string, 0, 14);
+        if !bytes::all_digits(digits) {
             return ParsedDateTime::Not;
-        };
-        let ParsedU8::Is(month) = pair(time_string, 4) else {
+        }
+        if !is_fraction(part::skip(time_string, 14)) {
             return ParsedDateTime::Not;
-        };
-        let ParsedU8::Is(day) = pair(time_string, 6) else {
-            return ParsedDateTime::Not;
-        };
-        let ParsedU8::Is(hour) = pair(time_string, 8) else {
-            return ParsedDateTime::Not;
-        };
-        let ParsedU8::Is(minute) = pair(time_string, 10) else {
-            return ParsedDateTime::Not;
-        };
-        let ParsedU8::Is(second) = pair(time_string, 12) else {
-            return ParsedDateTime::Not;
-        };
-        ParsedDateTime::Is(DateTime {
-            year,
-            month,
-            day,
-            hour,
-            minute,
-            second,
-        })
+        }
+        existing_date(date_in(digits))
     }
 }
 
@@ -191,27 +221,20 @@ fn count_or_zero(rest: &[u8], places: &[usize; 22], n: usize) -> Count
     }
 }
 
-fn date_or_zero(rest: &[u8], places: &[usize; 22]) -> DateTime
-    requires { ⌜ Places (now places) (now rest) ⌝ }
-    ensures { λ r. ⌜ dateSays r ≡ dateOrZero (nth 2 (fields 44 (now (rest .entry)))) ⌝ }
+// The fix, if all its values were readable.
+fn fix_if(good: bool, values: GnssFix) -> GnssReportAnswer
+    ensures { λ r. ⌜ says r ≡ only good (read (fix (fixSays values))) ⌝ }
 {
-    match DateTime::new(field_at(rest, places, 2)) {
-        ParsedDateTime::Is(date) => date,
-        ParsedDateTime::Not => DateTime {
-            year: 0,
-            month: 0,
-            day: 0,
-            hour: 0,
-            minute: 0,
-            second: 0,
-        },
+    if good {
+        return GnssReportAnswer::Value(GnssReport::Fix(values));
     }
+    GnssReportAnswer::Refused(3)
 }
 
-// All values are read before they are asked for: one that is unreadable refuses the line, whichever it is.
-fn gnss_fix(rest: &[u8], places: &[usize; 22]) -> GnssReportAnswer
+// All values behind the date are read before they are asked for: one that is unreadable refuses the line, whichever it is.
+fn fix_on(date_time: DateTime, rest: &[u8], places: &[usize; 22]) -> GnssReportAnswer
     requires { ⌜ Places (now places) (now rest) ⌝ }
-    ensures { λ r. ⌜ says r ≡ fixOf (fields 44 (now (rest .entry))) ⌝ }
+    ensures { λ r. ⌜ says r ≡ fixOn (dateSays «date_time») (fields 44 (now (rest .entry))) ⌝ }
 {
     let latitude = float_at(rest, places, 3);
     let longitude = float_at(rest, places, 4);
@@ -229,9 +252,10 @@ fn gnss_fix(rest: &[u8], places: &[usize; 22]) -> GnssReportAnswer
     let motion = speed.good & course.good;
     let dilution = hdop.good & pdop.good & vdop.good;
     let satellites = in_view.good & gnss.good & glonass.good & ratio.good;
-    if position & motion & dilution & satellites {
-        return GnssReportAnswer::Value(GnssReport::Fix(GnssFix {
-            date_time: date_or_zero(rest, places),
+    fix_if(
+        position & motion & dilution & satellites,
+        GnssFix {
+            date_time,
             latitude: latitude.value,
             longitude: longitude.value,
             altitude: altitude.value,
@@ -244,9 +268,19 @@ fn gnss_fix(rest: &[u8], places: &[usize; 22]) -> GnssReportAnswer
             sat_gnss_used: gnss.value,
             sat_glonass_used: glonass.value,
             signal_noise_ratio: ratio.value,
-        }));
+        },
+    )
+}
+
+// The date first: 13 where there is none, whatever the other fields are.
+fn gnss_fix(rest: &[u8], places: &[usize; 22]) -> GnssReportAnswer
+    requires { ⌜ Places (now places) (now rest) ⌝ }
+    ensures { λ r. ⌜ says r ≡ fixOf (fields 44 (now (rest .entry))) ⌝ }
+{
+    match DateTime::new(field_at(rest, places, 2)) {
+        ParsedDateTime::Is(date_time) => fix_on(date_time, rest, places),
+        ParsedDateTime::Not => GnssReportAnswer::Refused(13),
     }
-    GnssReportAnswer::Refused(3)
 }
 
 // Reads what follows the prefix: there are exactly 21 fields where the last begins within it and a next one does not.

@@ -120,7 +120,7 @@ pub ruleset levels = (level-is, level-none, level-not)
 -- a reading that needs the level goes on by the code's answer r
 module _ {B : Type 0} (o : Option (Option Float)) (f : Option Float → Reading B) (r : LevelCode) (is : codeSays r ≡ o) where
   pub told : (l : SignalLevel) (q : Reading B) → r ≡ Is l → q ≡ f (levelSays l) → q ≡ need o f
-  told l q e z = need-so o (levelSays l) f q (ap codeSays (sym e) ∙ is) z
+  told l q e z = need-so 3 o (levelSays l) f q (ap codeSays (sym e) ∙ is) z
 
   pub untold : r ≡ Not → refused 3 ≡ need o f
-  untold e = need-not o f (ap codeSays (sym e) ∙ is)
+  untold e = need-not 3 o f (ap codeSays (sym e) ∙ is)

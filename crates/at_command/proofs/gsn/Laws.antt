@@ -7,32 +7,22 @@ use native.Mathlib.Omega.{arith}
 use lib.ListN.{length, getD, take, drop, length-take}
 use borrow.Author.Tests.{eq-eqb, ne-eqb, not-true, not-false}
 use Rattle.text.specs.Bytes.{allDigits}
-use Rattle.text.specs.Digit.{isDigit, aboveZero}
-use Rattle.text.proofs.Ascii.{within-parts}
+use Rattle.text.specs.Digit.{aboveZero}
+use Rattle.text.proofs.Ascii.{within-parts, is-digit}
 use Rattle.text.proofs.AtIndex.{at-next, at-end}
-use Rattle.text.proofs.Tests.{and-left, and-right}
 use Rattle.text.proofs.Told.{difference, to-nine as told-nine}
 use Rattle.text.specs.Part.{partOf}
 use Rattle.text.specs.Reading.{read, refused, only, either}
 use Rattle.text.proofs.Parts.{from-start}
 use Rattle.at_command.specs.Gsn.{whole, doubled, luhn, checkDigit, imeiText}
 
--- a byte of digits is a digit
+-- what a digit is worth, as the code has it
 module _ (s : List ℕ) (i : ℕ) (inv : allDigits (drop i s) ≡ true) (h : i < length s) where
-  split : isDigit (getD s i 0) && allDigits (drop (i + 1) s) ≡ true
-  split = ap allDigits (sym (at-next s i h)) ∙ inv
-
-  is-digit : isDigit (getD s i 0) ≡ true
-  is-digit = and-left (isDigit (getD s i 0)) _ split
-
   digit-is : (d : ℕ) → d ≡ aboveZero (getD s i 0) → d ≡ getD s i 0 - 48
-  digit-is d e = e ∙ difference (getD s i 0) is-digit
+  digit-is d e = e ∙ difference (getD s i 0) (is-digit s i inv h)
 
   pub to-nine : (d : ℕ) → d ≡ aboveZero (getD s i 0) → d ≤ 9
-  to-nine d e = rw e (told-nine (getD s i 0) is-digit)
-
-  pub digits-on : allDigits (drop (i + 1) s) ≡ true
-  digits-on = and-right (isDigit (getD s i 0)) _ split
+  to-nine d e = rw e (told-nine (getD s i 0) (is-digit s i inv h))
 
 -- `check_digit`
 module _ (s : List ℕ) (i sum : ℕ) where

@@ -9,7 +9,7 @@ use lib.Ieee.{Float, binary32, round}
 use borrow.Author.Needs.{needs}
 use Rattle.numeral.specs.declared.Scanned.{Scanned}
 use Rattle.numeral.specs.declared.Scanned.the-variants.{Exact, Not}
-use Rattle.text.specs.Reading.{need}
+use Rattle.text.specs.Reading.{needElse}
 use Rattle.numeral.specs.Numeral.{decimalOf, floatOf, numeralText}
 use Rattle.numeral.specs.Nearest.{value, refused}
 use Rattle.numeral.specs.declared.Numeral.the-variants.{Value, Refused}
@@ -25,13 +25,13 @@ module _ (s : List ℕ) (r : Scanned) (told : scannedSays r ≡ decimalOf s) whe
   narrow n m k e = small s (record { negative = n; number = m; places = k }) (sym told ∙ ap scannedSays e)
 
   answered : (n : Bool) (m k : ℕ) (x : Float) → r ≡ Exact n m k → x ≡ round binary32 n m (10 ^ k) → NumeralKeeps s (Value x)
-  unfolding numeralText floatOf need
+  unfolding numeralText floatOf needElse
   answered n m k x e f =
       let d : decimalOf s ≡ some (record { negative = n; number = m; places = k }) = sym told ∙ ap scannedSays e in
       record { exact = rw (d, f); nearest = rw f (value (sound s _ d) (round-nearest n m (10 ^ k) (ten-pos k) (omega (arith, narrow n m k e)))) }
 
   unanswered : r ≡ Not → NumeralKeeps s Refused
-  unfolding numeralText floatOf need
+  unfolding numeralText floatOf needElse
   unanswered e =
       let d : decimalOf s ≡ none = sym told ∙ ap scannedSays e in
       record { exact = rw d; nearest = refused (unsaid s d) }

@@ -8,7 +8,8 @@ use borrow.Author.Needs.{needs}
 use Rattle.text.specs.Bytes.{allDigits}
 use Rattle.at_command.specs.Gsn.{luhn}
 use native.Mathlib.Omega.{arith}
-use Rattle.at_command.proofs.gsn.Laws.{to-nine, digits-on, luhn-odd, luhn-even, luhn-end}
+use Rattle.text.proofs.Ascii.{digits-on}
+use Rattle.at_command.proofs.gsn.Laws.{to-nine, luhn-odd, luhn-even, luhn-end}
 
 abbrev Inv-loop : tie.InvT-loop
 Inv-loop s sum₀ odd₀ i₀ sum odd i = (allDigits (drop i s) ≡ true) × (i ≤ length s) × (sum ≤ 9 * i) × (length s ≤ 14) × (luhn false s ≡ sum + luhn odd (drop i s))

@@ -1,7 +1,7 @@
 -- `sim7000_sort_line` meets its contract: the trial, and the number of the reader.
 use Rattle.at_command.specs.says.Request.{kindSays}
 use Rattle.sim7000.proofs.Commands.{place-few}
-use Rattle.trial.proofs.Turns.{refusal-low}
+use Rattle.trial.proofs.Order.{refusal-low}
 use borrow.Author.Needs.{needs}
 use Rattle.sim7000.proofs.read.sim7000_sort_line.Statement.{statement}
 use Rattle.sim7000.proofs.read.sim7000_sort_line.Tie as tie

@@ -1,13 +1,10 @@
--- The two in order of trial: each refuses with 3 alone.
+-- The two in order of trial.
 use borrow.Author.Needs.{needs}
 use Rattle.unsolicited.proofs.Urc.from_checked.Statement.{statement}
 use Rattle.unsolicited.proofs.Urc.from_checked.Tie as tie
-use mathlib.Core.Path.{_∙_}
-use Rattle.text.proofs.Yields.{yields-mapped}
+use mathlib.Core.Path.{refl, _∙_}
 use Rattle.unsolicited.specs.Urc.{gnss, registration}
-use Rattle.text.proofs.Readings.{mapped-read, mapped-refused, first-is, first-last}
-use Rattle.unsolicited.proofs.Trials.{plain-else}
-use Rattle.unsolicited.proofs.Reports.{plain-ugnsinf}
+use Rattle.text.proofs.Readings.{mapped-read, mapped-refused, first-is, first-else, first-none}
 use Rattle.unsolicited.proofs.Prefixes.{urc-nested}
 
 returns : tie.Need-returns
@@ -15,17 +12,18 @@ returns c = first-is 3 _ _ _ (mapped-read gnss _ _ (rw (c .before .report .given
 
 returns-2 : tie.Need-returns-2
 returns-2 c = let m = c .before .before .before in
-    plain-else _ (yields-mapped _ _ gnss _ (plain-ugnsinf _)) _ _ _ (mapped-refused gnss _ _ (rw (m .before .enum-told .given .1) at (m .before .before .before .from-checked .ensures)))
-    (first-is 3 _ _ _ (mapped-read registration _ _ (rw (c .before .registration .given .1) at (m .from-checked2 .ensures))))
+    first-else 3 _ _ _ _ _ (mapped-refused gnss _ _ (rw (m .before .before .k .given .1) at (m .before .before .before .before .from-checked .ensures))) refl
+    (first-is _ _ _ _ (mapped-read registration _ _ (rw (c .before .registration .given .1) at (m .from-checked2 .ensures))))
     ∙ urc-nested _
 
 returns-3 : tie.Need-returns-3
-returns-3 c = let m = c .before .before .before in
-    plain-else _ (yields-mapped _ _ gnss _ (plain-ugnsinf _)) _ _ _ (mapped-refused gnss _ _ (rw (m .before .enum-told .given .1) at (m .before .before .before .from-checked .ensures)))
-    (mapped-refused registration _ _ (rw (c .before .k .given .1) at (m .from-checked2 .ensures)) ∙ first-last _)
+returns-3 c = let m = c .before .before .before .before in
+    first-else 3 _ _ _ _ _ (mapped-refused gnss _ _ (rw (m .before .before .k .given .1) at (m .before .before .before .before .from-checked .ensures))) refl
+    (first-else _ _ _ _ _ _ (mapped-refused registration _ _ (rw (c .before .before .k2 .given .1) at (m .from-checked2 .ensures))) (c .worse-of .ensures) (first-none _))
     ∙ urc-nested _
 
 pub from-checked-spec : {M : Type 1} → statement M
 from-checked-spec =
     tie.close
-    (tie.spec (λ c κs. search needs) (λ c. search needs) returns (λ c. search needs) (λ c κs. search needs) (λ c. search needs) (λ c. search needs) returns-2 returns-3)
+    (tie.spec (λ c κs. search needs) (λ c. search needs) returns (λ c. search needs) (λ c κs. search needs) (λ c. search needs) (λ c. search needs) (λ c κs. search needs) returns-2
+    returns-3)
