@@ -1,4 +1,4 @@
--- The lines that are refused with 13 (document 02, CR 8), and what a line says that is not.
+-- The lines that are refused with 13 (document 02, CR 8).
 use Prim.Native.Nat.{ℕ}
 use mathlib.Core.Path.{_≡_}
 use mathlib.Core.Bool.{true}
