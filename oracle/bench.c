@@ -1,13 +1,6 @@
 /* The proved library beside the published Rust and beside a plain cutter, in one program and one run: see README.md. */
-#include <stdint.h>
-#include <stdio.h>
-#include <stdlib.h>
-#include <string.h>
-#include <time.h>
-
-#include "../bindings/c/sim7000.h"
-
-#define ROUNDS 15
+#define PROGRAM "bench"
+#include "bench.h"
 
 uint8_t rust_read_line(const uint8_t *line, size_t len);
 uint64_t rust_read_lines(const uint8_t *bytes, const size_t *starts, size_t count);
@@ -16,65 +9,6 @@ void rust_ask(struct requests *list, uint8_t request, uint16_t number, uint8_t c
               const uint8_t *second, size_t second_len);
 size_t rust_command(const struct requests *list, size_t at, uint8_t *out);
 uint64_t rust_commands(const struct requests *list);
-
-__attribute__((noinline)) void keep(const uint8_t *used) { __asm__ volatile("" : : "r"(used) : "memory"); }
-
-static void fail(const char *why)
-{
-    fprintf(stderr, "bench: %s\n", why);
-    exit(1);
-}
-
-static double seconds(void)
-{
-    struct timespec t;
-    clock_gettime(CLOCK_MONOTONIC, &t);
-    return (double)t.tv_sec + (double)t.tv_nsec * 1e-9;
-}
-
-/* ---- lines of a file */
-
-struct lines {
-    uint8_t *bytes;
-    size_t size;
-    size_t *starts; /* count + 1 places: each line ends one byte before the next one's start */
-    size_t count;
-};
-
-static struct lines lines_of(uint8_t *bytes, size_t size)
-{
-    struct lines l = {bytes, size, NULL, 0};
-    for (size_t i = 0; i < size; i++)
-        l.count += bytes[i] == '\n';
-    l.starts = malloc((l.count + 1) * sizeof *l.starts);
-    size_t n = 0;
-    l.starts[n++] = 0;
-    for (size_t i = 0; i < size; i++)
-        if (bytes[i] == '\n')
-            l.starts[n++] = i + 1;
-    return l;
-}
-
-static struct lines read_file(const char *name)
-{
-    FILE *f = fopen(name, "rb");
-    if (!f)
-        fail("a list is missing");
-    fseek(f, 0, SEEK_END);
-    size_t size = (size_t)ftell(f);
-    rewind(f);
-    uint8_t *bytes = malloc(size + 1);
-    if (fread(bytes, 1, size, f) != size)
-        fail("a list cannot be read");
-    fclose(f);
-    return lines_of(bytes, size);
-}
-
-static const uint8_t *line_at(const struct lines *l, size_t i, size_t *len)
-{
-    *len = l->starts[i + 1] - 1 - l->starts[i];
-    return l->bytes + l->starts[i];
-}
 
 /* ---- lines by the trial */
 
@@ -170,13 +104,10 @@ static uint64_t plain_cut(const struct lines *l)
     return sum;
 }
 
-typedef uint8_t feeds(uint8_t line[257], uint64_t state[3], const uint8_t sent[210], const uint8_t *chunk, size_t chunk_len, uint8_t *text,
-                      size_t text_len, uint64_t told[4]);
-
 static uint64_t desk_feed(const struct lines *l, feeds *feed, sim7000_desk *desk)
 {
     uint8_t text[256];
-    uint64_t sum = 0, told[4];
+    uint64_t sum = 0, told[SIM7000_TOLD];
     for (size_t at = 0; at < l->size; at += told[1]) {
         if (feed(desk->line, desk->state, desk->sent, l->bytes + at, l->size - at, text, sizeof text, told) != 0)
             fail("a feed was refused");
@@ -215,8 +146,8 @@ static uint64_t echo_feed(const struct lines *l)
  * bytes taken and the size. */
 uint8_t bench_feed(uint8_t line[257], size_t *len, const uint8_t *chunk, size_t chunk_len, uint8_t *text, size_t text_len, size_t told[2]);
 
-static uint8_t by_value(uint8_t line[257], uint64_t state[3], const uint8_t sent[210], const uint8_t *chunk, size_t chunk_len, uint8_t *text,
-                        size_t text_len, uint64_t told[4])
+static uint8_t by_value(uint8_t line[257], uint64_t state[SIM7000_STATE], const uint8_t sent[210], const uint8_t *chunk, size_t chunk_len, uint8_t *text,
+                        size_t text_len, uint64_t told[SIM7000_TOLD])
 {
     size_t len = state[0], got[2];
     (void)sent;
@@ -233,25 +164,6 @@ static uint64_t value_feed(const struct lines *l)
     static sim7000_desk desk;
     sim7000_reset(desk.state);
     return desk_feed(l, by_value, &desk);
-}
-
-/* ---- times: the sides take turns, and the best round of each counts */
-
-typedef uint64_t work(const struct lines *l);
-
-static void timed(const struct lines *l, work *const *sides, size_t count, double *best, uint64_t *sums)
-{
-    for (size_t k = 0; k < count; k++)
-        best[k] = 1e9;
-    for (int round = 0; round < ROUNDS; round++) {
-        for (size_t k = 0; k < count; k++) {
-            double from = seconds();
-            sums[k] = sides[k](l);
-            double took = seconds() - from;
-            if (took < best[k])
-                best[k] = took;
-        }
-    }
 }
 
 static void lines_bench(const char *name, const struct lines *l)
@@ -318,36 +230,6 @@ static void feed_bench(const char *name, const struct lines *text, const struct 
     told_feed("the same, an echo awaited", best[2], apart[0], best[0], bytes);
     printf("    which is %.2f times the plain feed's\n", best[2] / best[1]);
     told_feed("Desk::feed, by value", best[3], apart[0], best[0], bytes);
-}
-
-static struct lines framed(const struct lines *l)
-{
-    uint8_t *bytes = malloc(l->size + l->count);
-    size_t n = 0, len;
-    for (size_t i = 0; i < l->count; i++) {
-        const uint8_t *line = line_at(l, i, &len);
-        memcpy(bytes + n, line, len);
-        n += len;
-        bytes[n++] = '\r';
-        bytes[n++] = '\n';
-    }
-    return lines_of(bytes, n);
-}
-
-/* Lines of so many bytes that no reader accepts, from a fixed start. */
-static struct lines noise(size_t count, size_t len)
-{
-    uint8_t *bytes = malloc(count * (len + 1));
-    uint64_t x = 1;
-    size_t n = 0;
-    for (size_t i = 0; i < count; i++) {
-        for (size_t k = 0; k < len; k++) {
-            x = x * 6364136223846793005u + 1442695040888963407u;
-            bytes[n++] = (uint8_t)('a' + (x >> 33) % 26);
-        }
-        bytes[n++] = '\n';
-    }
-    return lines_of(bytes, n);
 }
 
 /* ---- commands */

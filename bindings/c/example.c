@@ -11,14 +11,20 @@
 static const uint8_t none[1]; /* a text of no bytes */
 static const char *const words[] = {"", "unsolicited", "taken", "done", "short", "failed", "stray", "overlong", "echo"};
 
-static void heard(const uint64_t told[4], const uint8_t *text)
+/* The event, the ordinal of its line, the number of a stray, and the line. */
+static void heard(const uint64_t told[SIM7000_TOLD], const uint8_t *text)
 {
     uint64_t values[SIM7000_VALUES];
     float strength;
     int size = (int)told[2];
     if (size > 0 && text[size - 1] == '\r') /* an echo has one: a log needs none */
         size--;
-    printf("%s %.*s\n", words[told[0]], size, (const char *)text);
+    printf("%s %" PRIu64, words[told[0]], told[4]);
+    if (told[0] == SIM7000_STRAY)
+        printf(" %" PRIu64, told[3]);
+    if (told[0] != SIM7000_OVERLONG)
+        printf(" %.*s", size, (const char *)text);
+    printf("\n");
     if (told[0] != SIM7000_TAKEN || sim7000_read_line(text, told[2], values) != 0)
         return;
     if (values[0] == SIM7000_SIGNAL_QUALITY && values[1] == 1) {
@@ -32,7 +38,7 @@ int main(void)
 {
     sim7000_desk desk = {{0}, {0}, {0}};
     uint8_t out[256], text[256], chunk[64];
-    uint64_t size, told[4];
+    uint64_t size, told[SIM7000_TOLD];
     ssize_t got;
     if (sim7000_open_echo(desk.state, desk.sent, SIM7000_GET_SIGNAL_QUALITY, 0, 0, none, 0, none, 0, out, sizeof out, &size) != 0)
         return 1;

@@ -89,16 +89,28 @@ uint8_t sim7000_write_command(uint8_t request, uint16_t number, uint8_t code, co
 
 /* ---- the desk */
 
+/* How many numbers a desk's state has, and how many a feed tells. Both grew by one with line numbers: a caller that lends fewer is written past
+ * its end, so use these names. */
+#define SIM7000_STATE 4
+#define SIM7000_TOLD 5
+
 /* All zeros is a new desk, and no content is ill-formed. state[0] counts the bytes of the line that is coming (above 257 it is being
  * dropped); state[1] is 0, or above 182, while no command is open; state[2] is how many bytes of sent are the echo that is awaited, and 0, or
- * above 210, while none is. */
+ * above 210, while none is; state[3] is how many lines were counted since the last accepted open or reset: a number above 4294967295 is read as
+ * that, and a line's ordinal is one more, and at most that. */
 typedef struct sim7000_desk {
     uint8_t line[257];
     uint8_t sent[210];
-    uint64_t state[3];
+    uint64_t state[SIM7000_STATE];
 } sim7000_desk;
 
-/* An event, which is told[0]; told[1] are the bytes taken, told[2] the size of the line in text, told[3] the number of a Stray. */
+/* An event, which is told[0]; told[1] are the bytes taken, told[2] the size of the line in text, told[3] the number of a Stray, told[4] the
+ * ordinal of the line. Without an event all but told[1] are 0.
+ *
+ * The ordinal finds the line in a capture of what was fed: go to where the last open before it was accepted, in either mode, or the last reset
+ * made, of a new desk to the start, and count from 1 the lines that end from there on. Empty ones are left out. Overlong ones are counted, and so
+ * is a prompt, "> " where a line begins, which is a line as soon as it is there: what follows it is the next. Of a line that a reset came into,
+ * only what follows the reset is a line. A refused open leaves the count, and so does an event that closes the command. At 4294967295 it stays. */
 enum {
     SIM7000_NO_EVENT = 0,
     SIM7000_UNSOLICITED = 1,
@@ -111,21 +123,22 @@ enum {
     SIM7000_ECHO = 8 /* the line may end with a CR: modems send the command, CR, CR LF */
 };
 
-/* As sim7000_write_command, and the command's answers are awaited: 0; or 3, 8, 9, 5, 12, 6, 7. */
-uint8_t sim7000_open(uint64_t state[3], uint8_t request, uint16_t number, uint8_t code, const uint8_t *first, size_t first_len,
+/* As sim7000_write_command, and the command's answers are awaited, and lines counted from 1 again: 0; or 3, 8, 9, 5, 12, 6, 7. */
+uint8_t sim7000_open(uint64_t state[SIM7000_STATE], uint8_t request, uint16_t number, uint8_t code, const uint8_t *first, size_t first_len,
                      const uint8_t *second, size_t second_len, uint8_t *out, size_t out_len, uint64_t *size);
 
 /* The same for a modem with echo on (ATE1). Until a line equals the command, with or without its final CR, a response or an error is a late
- * one: Stray 0. The equal line is the Echo, and from then on all is as after sim7000_open. The command is kept in sent, so out is free. */
-uint8_t sim7000_open_echo(uint64_t state[3], uint8_t sent[210], uint8_t request, uint16_t number, uint8_t code, const uint8_t *first,
+ * one: Stray 0. The equal line is the Echo, counted like any other, and from then on all is as after sim7000_open. The command is kept in sent, so
+ * out is free. */
+uint8_t sim7000_open_echo(uint64_t state[SIM7000_STATE], uint8_t sent[210], uint8_t request, uint16_t number, uint8_t code, const uint8_t *first,
                           size_t first_len, const uint8_t *second, size_t second_len, uint8_t *out, size_t out_len, uint64_t *size);
 
 /* Takes bytes of chunk up to and with the first that yields an event, or all; the line is then in front of text. 0, or 10. */
-uint8_t sim7000_feed(uint8_t line[257], uint64_t state[3], const uint8_t sent[210], const uint8_t *chunk, size_t chunk_len, uint8_t *text,
-                     size_t text_len, uint64_t told[4]);
+uint8_t sim7000_feed(uint8_t line[257], uint64_t state[SIM7000_STATE], const uint8_t sent[210], const uint8_t *chunk, size_t chunk_len, uint8_t *text,
+                     size_t text_len, uint64_t told[SIM7000_TOLD]);
 
-/* Closes the command, awaits no echo, and forgets an unfinished line. */
-void sim7000_reset(uint64_t state[3]);
+/* Closes the command, awaits no echo, forgets an unfinished line, and counts lines from 1 again. */
+void sim7000_reset(uint64_t state[SIM7000_STATE]);
 
 #ifdef __cplusplus
 }

@@ -12,7 +12,7 @@ mod raw;
 mod read;
 
 pub use command::Request;
-pub use desk::{Desk, Event, Fed};
+pub use desk::{Desk, Event, Fed, Heard};
 pub use read::*;
 
 /// A refusal number of documents 01 and 02: 1 to 10, 12 or 13.

@@ -16,7 +16,7 @@ extern "C" {
         size: *mut u64,
     ) -> u8;
     pub fn sim7000_open(
-        state: *mut [u64; 3],
+        state: *mut [u64; 4],
         request: u8,
         number: u16,
         code: u8,
@@ -29,7 +29,7 @@ extern "C" {
         size: *mut u64,
     ) -> u8;
     pub fn sim7000_open_echo(
-        state: *mut [u64; 3],
+        state: *mut [u64; 4],
         sent: *mut [u8; 210],
         request: u8,
         number: u16,
@@ -44,13 +44,13 @@ extern "C" {
     ) -> u8;
     pub fn sim7000_feed(
         line: *mut [u8; 257],
-        state: *mut [u64; 3],
+        state: *mut [u64; 4],
         sent: *const [u8; 210],
         chunk: *const u8,
         chunk_len: usize,
         text: *mut u8,
         text_len: usize,
-        told: *mut [u64; 4],
+        told: *mut [u64; 5],
     ) -> u8;
-    pub fn sim7000_reset(state: *mut [u64; 3]);
+    pub fn sim7000_reset(state: *mut [u64; 4]);
 }

@@ -76,13 +76,16 @@ fn commands() {
     assert!(wide[size..].iter().all(|&byte| byte == 7));
 }
 
+/// An event, its line's ordinal and its line.
+type Told = (Event, u32, Vec<u8>);
+
 /// What a desk hears of bytes that come in chunks of so many.
-fn heard(desk: &mut Desk, bytes: &[u8], chunk: usize) -> Vec<(Event, Vec<u8>)> {
+fn heard(desk: &mut Desk, bytes: &[u8], chunk: usize) -> Vec<Told> {
     let (mut text, mut all) = ([0; 256], Vec::new());
     for mut rest in bytes.chunks(chunk) {
         while !rest.is_empty() {
             let fed = desk.feed(rest, &mut text).unwrap();
-            all.extend(fed.heard.map(|(event, line)| (event, line.to_vec())));
+            all.extend(fed.heard.map(|Heard { event, ordinal, line }| (event, ordinal, line.to_vec())));
             rest = &rest[fed.taken..];
         }
     }
@@ -90,7 +93,7 @@ fn heard(desk: &mut Desk, bytes: &[u8], chunk: usize) -> Vec<(Event, Vec<u8>)> {
 }
 
 /// The same of a desk with AT+CSQ open.
-fn events(bytes: &[u8], chunk: usize) -> Vec<(Event, Vec<u8>)> {
+fn events(bytes: &[u8], chunk: usize) -> Vec<Told> {
     let (mut desk, mut out) = (Desk::new(), [0; 64]);
     assert_eq!(desk.open(&Request::GetSignalQuality, &mut out), Ok(&b"AT+CSQ\r"[..]));
     assert!(desk.is_open());
@@ -98,7 +101,7 @@ fn events(bytes: &[u8], chunk: usize) -> Vec<(Event, Vec<u8>)> {
 }
 
 /// The same with its echo awaited, and whether the command is open after them. The buffer that it was written to is overwritten first.
-fn echo_events(bytes: &[u8], chunk: usize) -> (Vec<(Event, Vec<u8>)>, bool) {
+fn echo_events(bytes: &[u8], chunk: usize) -> (Vec<Told>, bool) {
     let (mut desk, mut out) = (Desk::new(), [0; 64]);
     assert_eq!(desk.open_echo(&Request::GetSignalQuality, &mut out), Ok(&b"AT+CSQ\r"[..]));
     assert!(desk.is_open());
@@ -107,14 +110,14 @@ fn echo_events(bytes: &[u8], chunk: usize) -> (Vec<(Event, Vec<u8>)>, bool) {
     (all, desk.is_open())
 }
 
-fn line(event: Event, line: &[u8]) -> (Event, Vec<u8>) {
-    (event, line.to_vec())
+fn line(event: Event, ordinal: u32, line: &[u8]) -> Told {
+    (event, ordinal, line.to_vec())
 }
 
 #[test]
 fn document_01s_example_in_every_cut() {
     let bytes = b"\r\n+CEREG: 5\r\n\r\n+CSQ: 31,99\r\n\r\nOK\r\n";
-    let expected = vec![line(Event::Unsolicited, b"+CEREG: 5"), line(Event::Taken, b"+CSQ: 31,99"), line(Event::Done, b"OK")];
+    let expected = vec![line(Event::Unsolicited, 1, b"+CEREG: 5"), line(Event::Taken, 2, b"+CSQ: 31,99"), line(Event::Done, 3, b"OK")];
     for chunk in 1..=bytes.len() {
         assert_eq!(events(bytes, chunk), expected);
     }
@@ -125,9 +128,15 @@ fn the_other_events() {
     let mut bytes = b"ERROR\nOK\n\xff\n> ".to_vec();
     bytes.extend([b'a'; 257]);
     bytes.push(b'\n');
-    let expected = vec![line(Event::Failed, b"ERROR"), line(Event::Stray(0), b"OK"), line(Event::Stray(2), b"\xff"), line(Event::Stray(0), b"> "), line(Event::Overlong, b"")];
+    let expected = vec![
+        line(Event::Failed, 1, b"ERROR"),
+        line(Event::Stray(0), 2, b"OK"),
+        line(Event::Stray(2), 3, b"\xff"),
+        line(Event::Stray(0), 4, b"> "),
+        line(Event::Overlong, 5, b""),
+    ];
     assert_eq!(events(&bytes, 5), expected);
-    assert_eq!(events(b"OK\n", 3), vec![line(Event::Short, b"OK")]);
+    assert_eq!(events(b"OK\n", 3), vec![line(Event::Short, 1, b"OK")]);
 }
 
 /// AT+GSN is answered by an IMEI and by a version number, and by digits of no other count.
@@ -139,10 +148,10 @@ fn what_answers_gsn() {
         heard(&mut desk, &[number, b"\r\nOK\r\n"].concat(), 5)
     };
     for number in [&b"490154203237518"[..], b"4901542032375180", b"4901542032375181"] {
-        assert_eq!(answered(number), [line(Event::Taken, number), line(Event::Done, b"OK")]);
+        assert_eq!(answered(number), [line(Event::Taken, 1, number), line(Event::Done, 2, b"OK")]);
     }
     for number in [&b"490154203237517"[..], b"49015420323751", b"49015420323751810"] {
-        assert_eq!(answered(number), [line(Event::Stray(3), number), line(Event::Short, b"OK")]);
+        assert_eq!(answered(number), [line(Event::Stray(3), 1, number), line(Event::Short, 2, b"OK")]);
     }
 }
 
@@ -151,17 +160,17 @@ fn what_answers_gsn() {
 fn a_fix_without_a_date() {
     let (bad, good) = (fix("20230229123456.000", "59.5"), fix("20240229123456.000", "59.5"));
     let bytes = format!("{bad}\r\n{good}\r\nAT+CSQ\r\n{bad}\r\n+CSQ: 31,99\r\n{bad}\r\nOK\r\n{bad}\r\n");
-    let stray = line(Event::Stray(13), bad.as_bytes());
+    let stray = |ordinal| line(Event::Stray(13), ordinal, bad.as_bytes());
     let expected = |echo| {
         vec![
-            stray.clone(),
-            line(Event::Unsolicited, good.as_bytes()),
-            line(echo, b"AT+CSQ"),
-            stray.clone(),
-            line(Event::Taken, b"+CSQ: 31,99"),
-            stray.clone(),
-            line(Event::Done, b"OK"),
-            stray.clone(),
+            stray(1),
+            line(Event::Unsolicited, 2, good.as_bytes()),
+            line(echo, 3, b"AT+CSQ"),
+            stray(4),
+            line(Event::Taken, 5, b"+CSQ: 31,99"),
+            stray(6),
+            line(Event::Done, 7, b"OK"),
+            stray(8),
         ]
     };
     assert_eq!(events(bytes.as_bytes(), 7), expected(Event::Stray(3)));
@@ -173,29 +182,29 @@ fn a_fix_without_a_date() {
 fn a_late_reply_in_every_cut() {
     let bytes = b"\r\n+CSQ: 5,0\r\n\r\nOK\r\nAT+CSQ\r\r\n\r\n+CEREG: 5\r\n\r\n+CSQ: 31,99\r\n\r\nOK\r\n";
     let expected = vec![
-        line(Event::Stray(0), b"+CSQ: 5,0"),
-        line(Event::Stray(0), b"OK"),
-        line(Event::Echo, b"AT+CSQ\r"),
-        line(Event::Unsolicited, b"+CEREG: 5"),
-        line(Event::Taken, b"+CSQ: 31,99"),
-        line(Event::Done, b"OK"),
+        line(Event::Stray(0), 1, b"+CSQ: 5,0"),
+        line(Event::Stray(0), 2, b"OK"),
+        line(Event::Echo, 3, b"AT+CSQ\r"),
+        line(Event::Unsolicited, 4, b"+CEREG: 5"),
+        line(Event::Taken, 5, b"+CSQ: 31,99"),
+        line(Event::Done, 6, b"OK"),
     ];
     for chunk in 1..=bytes.len() {
         assert_eq!(echo_events(bytes, chunk), (expected.clone(), false));
     }
-    assert_eq!(events(bytes, 7)[..2], [line(Event::Taken, b"+CSQ: 5,0"), line(Event::Done, b"OK")]);
+    assert_eq!(events(bytes, 7)[..2], [line(Event::Taken, 1, b"+CSQ: 5,0"), line(Event::Done, 2, b"OK")]);
 }
 
 #[test]
 fn the_echo_with_and_without_its_cr() {
-    assert_eq!(echo_events(b"AT+CSQ\r\r\n", 9), (vec![line(Event::Echo, b"AT+CSQ\r")], true));
-    assert_eq!(echo_events(b"AT+CSQ\r\n", 8), (vec![line(Event::Echo, b"AT+CSQ")], true));
-    assert_eq!(echo_events(b"AT+CSQ\n", 7), (vec![line(Event::Echo, b"AT+CSQ")], true));
+    assert_eq!(echo_events(b"AT+CSQ\r\r\n", 9), (vec![line(Event::Echo, 1, b"AT+CSQ\r")], true));
+    assert_eq!(echo_events(b"AT+CSQ\r\n", 8), (vec![line(Event::Echo, 1, b"AT+CSQ")], true));
+    assert_eq!(echo_events(b"AT+CSQ\n", 7), (vec![line(Event::Echo, 1, b"AT+CSQ")], true));
     let others: [&[u8]; 11] =
         [b"AT+CS", b"A", b"AT+CSQ?", b"AT+CSQ\r\r", b"AT+CSQ\r?", b"at+csq", b" AT+CSQ", b"AT+CSQ ", b"AT+CSR", b"BT+CSQ\r", b"AT+CSQ\0"];
     for other in others {
         let bytes = [other, b"\r\n"].concat();
-        assert_eq!(echo_events(&bytes, bytes.len()), (vec![line(Event::Stray(3), other)], true), "{}", other.escape_ascii());
+        assert_eq!(echo_events(&bytes, bytes.len()), (vec![line(Event::Stray(3), 1, other)], true), "{}", other.escape_ascii());
     }
 }
 
@@ -213,21 +222,22 @@ fn before_the_echo_and_after_it() {
         (b"OK", 0),
     ];
     let (mut bytes, mut expected) = (Vec::new(), Vec::new());
-    for (stray, number) in strays {
+    for (ordinal, (stray, number)) in (1..).zip(strays) {
         bytes.extend([stray, b"\r\n"].concat());
-        expected.push(line(Event::Stray(number), stray));
+        expected.push(line(Event::Stray(number), ordinal, stray));
     }
     bytes.extend(b"> \r\n+CEREG: 5\r\n");
     bytes.extend([b'a'; 257]);
     bytes.extend(b"\r\n");
-    expected.extend([line(Event::Stray(0), b"> "), line(Event::Unsolicited, b"+CEREG: 5"), line(Event::Overlong, b"")]);
+    expected.extend([line(Event::Stray(0), 10, b"> "), line(Event::Unsolicited, 11, b"+CEREG: 5"), line(Event::Overlong, 12, b"")]);
     assert_eq!(echo_events(&bytes, 1), (expected.clone(), true));
     bytes.extend(b"AT+CSQ\r\r\nAT+CSQ\r\r\nAT+CSQ\r\n");
-    expected.extend([line(Event::Echo, b"AT+CSQ\r"), line(Event::Stray(3), b"AT+CSQ\r"), line(Event::Stray(3), b"AT+CSQ")]);
+    expected.extend([line(Event::Echo, 13, b"AT+CSQ\r"), line(Event::Stray(3), 14, b"AT+CSQ\r"), line(Event::Stray(3), 15, b"AT+CSQ")]);
+    let all = vec![line(Event::Taken, 16, b"+CSQ: 31,99"), line(Event::Done, 17, b"OK"), line(Event::Stray(3), 18, b"AT+CSQ\r")];
     for (answers, told) in [
-        (&b"+CSQ: 31,99\r\nOK\r\nAT+CSQ\r\r\n"[..], vec![line(Event::Taken, b"+CSQ: 31,99"), line(Event::Done, b"OK"), line(Event::Stray(3), b"AT+CSQ\r")]),
-        (b"ERROR\r\n", vec![line(Event::Failed, b"ERROR")]),
-        (b"OK\r\n", vec![line(Event::Short, b"OK")]),
+        (&b"+CSQ: 31,99\r\nOK\r\nAT+CSQ\r\r\n"[..], all),
+        (b"ERROR\r\n", vec![line(Event::Failed, 16, b"ERROR")]),
+        (b"OK\r\n", vec![line(Event::Short, 16, b"OK")]),
     ] {
         let (bytes, expected) = ([&bytes, answers].concat(), [&expected[..], &told].concat());
         assert_eq!(echo_events(&bytes, 1), (expected.clone(), false));
@@ -244,12 +254,12 @@ fn the_longest_command_comes_back() {
     long.insert(209, b'"');
     other[208] = b'x';
     let bytes = [&long, &b"\r\n"[..], &other, b"\r\n", &command[..209], b"\r\n", &command, b"\r\n"].concat();
-    let expected = [line(Event::Stray(3), &long), line(Event::Stray(3), &other), line(Event::Echo, &command[..209]), line(Event::Stray(3), &command)];
+    let expected = [line(Event::Stray(3), 1, &long), line(Event::Stray(3), 2, &other), line(Event::Echo, 3, &command[..209]), line(Event::Stray(3), 4, &command)];
     assert_eq!(heard(&mut desk, &bytes, 64), expected);
     // of the long command only bytes behind the next one are left, and they change nothing
     desk.reset();
     assert!(desk.open_echo(&Request::GetSignalQuality, &mut out).is_ok());
-    let expected = [line(Event::Stray(0), b"+CSQ: 5,0"), line(Event::Echo, b"AT+CSQ"), line(Event::Taken, b"+CSQ: 31,99")];
+    let expected = [line(Event::Stray(0), 1, b"+CSQ: 5,0"), line(Event::Echo, 2, b"AT+CSQ"), line(Event::Taken, 3, b"+CSQ: 31,99")];
     assert_eq!(heard(&mut desk, b"+CSQ: 5,0\nAT+CSQ\n+CSQ: 31,99\n", 64), expected);
 }
 
@@ -258,9 +268,9 @@ fn a_plain_open_awaits_no_echo() {
     let (mut desk, mut out) = (Desk::new(), [0; 64]);
     assert!(desk.open_echo(&Request::GetSignalQuality, &mut out).is_ok());
     desk.reset();
-    assert_eq!(heard(&mut desk, b"AT+CSQ\n", 64), [line(Event::Stray(3), b"AT+CSQ")]);
+    assert_eq!(heard(&mut desk, b"AT+CSQ\n", 64), [line(Event::Stray(3), 1, b"AT+CSQ")]);
     assert!(desk.open(&Request::GetSignalQuality, &mut out).is_ok());
-    assert_eq!(heard(&mut desk, b"AT+CSQ\n+CSQ: 31,99\n", 64), [line(Event::Stray(3), b"AT+CSQ"), line(Event::Taken, b"+CSQ: 31,99")]);
+    assert_eq!(heard(&mut desk, b"AT+CSQ\n+CSQ: 31,99\n", 64), [line(Event::Stray(3), 1, b"AT+CSQ"), line(Event::Taken, 2, b"+CSQ: 31,99")]);
 }
 
 #[test]
@@ -279,7 +289,7 @@ fn refusals_of_an_open_in_echo_mode() {
     // refused, it leaves AT+GSN awaited
     assert_eq!(desk.open_echo(&Request::GetSignalQuality, &mut out), Err(Refusal(8)));
     assert_eq!(desk.open(&Request::GetSignalQuality, &mut out), Err(Refusal(8)));
-    assert_eq!(heard(&mut desk, b"AT+CSQ\nAT+GSN\n", 64), [line(Event::Stray(3), b"AT+CSQ"), line(Event::Echo, b"AT+GSN")]);
+    assert_eq!(heard(&mut desk, b"AT+CSQ\nAT+GSN\n", 64), [line(Event::Stray(3), 1, b"AT+CSQ"), line(Event::Echo, 2, b"AT+GSN")]);
 }
 
 #[test]
@@ -296,4 +306,68 @@ fn refusals_of_a_desk() {
     assert_eq!(desk.open(&Request::GetImei, &mut out[..3]), Err(Refusal(7)));
     assert_eq!(desk.open(&Request::SetManualOperator { plmn: b"64304\"" }, &mut out), Err(Refusal(12)));
     assert!(!desk.is_open());
+}
+
+/// Empty lines are not counted; an overlong one is, and a prompt, with what follows it as the next line.
+#[test]
+fn ordinals_in_every_cut() {
+    let bytes = [&b"\r\n\n+CEREG: 5\r\n> \r\n> +CEREG: 1\r\n\r\n"[..], &[b'a'; 257], b"\r\n\r\r\nOK\r\n"].concat();
+    let expected = vec![
+        line(Event::Unsolicited, 1, b"+CEREG: 5"),
+        line(Event::Stray(0), 2, b"> "),
+        line(Event::Stray(0), 3, b"> "),
+        line(Event::Unsolicited, 4, b"+CEREG: 1"),
+        line(Event::Overlong, 5, b""),
+        line(Event::Stray(3), 6, b"\r"),
+        line(Event::Short, 7, b"OK"),
+    ];
+    for chunk in 1..=bytes.len() {
+        assert_eq!(events(&bytes, chunk), expected);
+    }
+}
+
+/// The ordinal of a line that changes nothing but the count.
+fn next(desk: &mut Desk) -> u32 {
+    let told = heard(desk, b"+CEREG: 5\r\n", 64);
+    assert_eq!(told, [line(Event::Unsolicited, told[0].1, b"+CEREG: 5")]);
+    told[0].1
+}
+
+type Opens = for<'o> fn(&mut Desk, &Request<'_>, &'o mut [u8]) -> Result<&'o [u8], Refusal>;
+
+/// At a new desk, at an accepted open in either mode and at a reset; nowhere else.
+#[test]
+fn where_the_count_begins() {
+    for opens in [Desk::open as Opens, Desk::open_echo] {
+        let (mut desk, mut out) = (Desk::new(), [0; 64]);
+        assert_eq!([next(&mut desk), next(&mut desk)], [1, 2]);
+        assert_eq!(opens(&mut desk, &Request::SetManualOperator { plmn: b"6430411" }, &mut out), Err(Refusal(5)));
+        assert_eq!(next(&mut desk), 3);
+        assert_eq!(opens(&mut desk, &Request::SetManualOperator { plmn: b"64304\"" }, &mut out), Err(Refusal(12)));
+        assert_eq!(next(&mut desk), 4);
+        assert_eq!(opens(&mut desk, &Request::DownloadToFileSystem { url: b"\n", file_path: b"" }, &mut out), Err(Refusal(6)));
+        assert_eq!(next(&mut desk), 5);
+        assert_eq!(opens(&mut desk, &Request::GetImei, &mut out[..6]), Err(Refusal(7)));
+        assert_eq!(next(&mut desk), 6);
+        assert!(heard(&mut desk, b"\r\n+C", 3).is_empty());
+        assert_eq!(opens(&mut desk, &Request::GetImei, &mut out), Err(Refusal(9)));
+        assert_eq!(heard(&mut desk, b"\r\n", 2), [line(Event::Stray(3), 7, b"+C")]);
+
+        assert!(opens(&mut desk, &Request::GetImei, &mut out).is_ok());
+        assert_eq!([next(&mut desk), next(&mut desk)], [1, 2]);
+        assert_eq!(opens(&mut desk, &Request::GetImei, &mut out), Err(Refusal(8)));
+        assert_eq!(next(&mut desk), 3);
+        assert!(heard(&mut desk, b"+CSQ", 4).is_empty());
+        desk.reset();
+        assert_eq!(heard(&mut desk, b": 5,0\r\n", 7), [line(Event::Stray(3), 1, b": 5,0")]);
+        assert_eq!(next(&mut desk), 2);
+
+        // the last awaited answer closes the command, and the count goes on; the next open begins it anew
+        assert!(opens(&mut desk, &Request::GetImei, &mut out).is_ok());
+        let told = heard(&mut desk, b"AT+GSN\r\r\n490154203237518\r\nOK\r\n", 64);
+        assert_eq!(told[1..], [line(Event::Taken, 2, b"490154203237518"), line(Event::Done, 3, b"OK")]);
+        assert_eq!((told[0].1, next(&mut desk)), (1, 4));
+        assert!(opens(&mut desk, &Request::GetSignalQuality, &mut out).is_ok());
+        assert_eq!(next(&mut desk), 1);
+    }
 }

@@ -124,9 +124,9 @@ fn comes_back(request: &Request, command: &[u8]) {
         let (mut desk, mut out, mut text) = (Desk::new(), [0; 256], [0; 256]);
         assert_eq!(desk.open_echo(request, &mut out), Ok(command));
         out.fill(0);
-        assert_eq!(desk.feed(b"OK\n", &mut text).unwrap().heard, Some((Event::Stray(0), &b"OK"[..])));
-        assert_eq!(desk.feed(&[echo, b"\r\n"].concat(), &mut text).unwrap().heard, Some((Event::Echo, echo)));
-        assert_eq!(desk.feed(&[again, b"\r\n"].concat(), &mut text).unwrap().heard, Some((Event::Stray(3), again)));
+        for (line, event, ordinal) in [(&b"OK"[..], Event::Stray(0), 1), (echo, Event::Echo, 2), (again, Event::Stray(3), 3)] {
+            assert_eq!(desk.feed(&[line, b"\r\n"].concat(), &mut text).unwrap().heard, Some(Heard { event, ordinal, line }));
+        }
         assert!(desk.is_open());
         assert_eq!(sort_line(echo), Err(Refusal(3)));
     }

@@ -11,7 +11,7 @@ mod raw;
 struct Parts {
     line: [u8; 257],
     sent: [u8; 210],
-    state: [u64; 3],
+    state: [u64; 4],
 }
 
 /// All that an open is lent to write to.
@@ -28,9 +28,12 @@ struct Asked<'a> {
     second: &'a [u8],
 }
 
+/// The greatest ordinal.
+const GREATEST: u64 = 4294967295;
+
 const SIGNAL: Asked = Asked { request: 0, first: b"", second: b"" };
 
-fn parts(sent: [u8; 210], state: [u64; 3]) -> Parts {
+fn parts(sent: [u8; 210], state: [u64; 4]) -> Parts {
     Parts { line: [0x55; 257], sent, state }
 }
 
@@ -84,19 +87,24 @@ fn open_echo(lent: &mut Lent, a: &Asked) -> u8 {
     }
 }
 
-fn feed(desk: &mut Parts, chunk: &[u8], text: &mut [u8], told: &mut [u64; 4]) -> u8 {
+fn feed(desk: &mut Parts, chunk: &[u8], text: &mut [u8], told: &mut [u64; 5]) -> u8 {
     unsafe { raw::sim7000_feed(&mut desk.line, &mut desk.state, &desk.sent, chunk.as_ptr(), chunk.len(), text.as_mut_ptr(), text.len(), told) }
 }
 
-/// Each event's number, its stray number and its line, from bytes that come in chunks of so many.
-fn events(desk: &mut Parts, bytes: &[u8], chunk: usize) -> Vec<(u64, u64, Vec<u8>)> {
-    let (mut text, mut told, mut all) = ([0; 256], [0; 4], Vec::new());
+/// An event's number, its line's ordinal, its stray number and its line.
+type Told = (u64, u64, u64, Vec<u8>);
+
+/// What is told of bytes that come in chunks of so many. Without an event all but the bytes taken are 0.
+fn events(desk: &mut Parts, bytes: &[u8], chunk: usize) -> Vec<Told> {
+    let (mut text, mut told, mut all) = ([0; 256], [9; 5], Vec::new());
     let kept = desk.sent;
     for mut rest in bytes.chunks(chunk) {
         while !rest.is_empty() {
             assert_eq!(feed(desk, rest, &mut text, &mut told), 0);
             if told[0] != 0 {
-                all.push((told[0], told[3], text[..told[2] as usize].to_vec()));
+                all.push((told[0], told[4], told[3], text[..told[2] as usize].to_vec()));
+            } else {
+                assert_eq!(told, [0, rest.len() as u64, 0, 0, 0]);
             }
             rest = &rest[told[1] as usize..];
         }
@@ -107,23 +115,28 @@ fn events(desk: &mut Parts, bytes: &[u8], chunk: usize) -> Vec<(u64, u64, Vec<u8
 
 const LATE: &[u8] = b"+CSQ: 5,0\r\nAT+CSQ\r\r\n+CSQ: 31,99\r\nOK\r\n";
 
-fn late(first: u64, echo: (u64, u64), second: u64, last: (u64, u64)) -> Vec<(u64, u64, Vec<u8>)> {
-    vec![(first, 0, b"+CSQ: 5,0".to_vec()), (echo.0, echo.1, b"AT+CSQ\r".to_vec()), (second, 0, b"+CSQ: 31,99".to_vec()), (last.0, last.1, b"OK".to_vec())]
+fn late(first: u64, echo: (u64, u64), second: u64, last: (u64, u64)) -> Vec<Told> {
+    vec![
+        (first, 1, 0, b"+CSQ: 5,0".to_vec()),
+        (echo.0, 2, echo.1, b"AT+CSQ\r".to_vec()),
+        (second, 3, 0, b"+CSQ: 31,99".to_vec()),
+        (last.0, 4, last.1, b"OK".to_vec()),
+    ]
 }
 
 /// `LATE` with AT+CSQ's echo awaited, and with the command open and none awaited.
-fn with_echo() -> Vec<(u64, u64, Vec<u8>)> {
+fn with_echo() -> Vec<Told> {
     late(6, (8, 0), 2, (3, 0))
 }
 
-fn without_echo() -> Vec<(u64, u64, Vec<u8>)> {
+fn without_echo() -> Vec<Told> {
     late(2, (6, 3), 6, (3, 0))
 }
 
 /// One fault after the other is mended: no such request, a command open, a line held, each `bad` first text with its refusal, of which the first is 5, a
 /// buffer one byte short. What is refused changes nothing that was lent.
 fn each_refusal(opens: fn(&mut Lent, &Asked) -> u8, request: u8, bad: &[(u8, &[u8])], good: &[u8], size: usize) {
-    let mut all = lent(parts([0xaa; 210], [3, 6, 7]), size - 1);
+    let mut all = lent(parts([0xaa; 210], [3, 6, 7, 5]), size - 1);
     let mut steps = vec![(3, bad[0].1), (8, bad[0].1), (9, bad[0].1)];
     steps.extend(bad);
     steps.push((7, good));
@@ -133,8 +146,9 @@ fn each_refusal(opens: fn(&mut Lent, &Asked) -> u8, request: u8, bad: &[(u8, &[u
             5 => all.desk.state[0] = 0,
             _ => {}
         }
-        for state in [0, 7, 210, 211, u64::MAX] {
-            all.desk.state[2] = state;
+        for (echo, count) in [(0, 5), (7, 0), (210, GREATEST), (211, GREATEST + 1), (u64::MAX, u64::MAX)] {
+            all.desk.state[2] = echo;
+            all.desk.state[3] = count;
             let before = all.clone();
             assert_eq!(opens(&mut all, &Asked { request: if refusal == 3 { 13 } else { request }, first, second: &[b'"'; 32] }), refusal);
             assert_eq!(all, before);
@@ -142,7 +156,7 @@ fn each_refusal(opens: fn(&mut Lent, &Asked) -> u8, request: u8, bad: &[(u8, &[u
     }
     all.out.push(7);
     assert_eq!(opens(&mut all, &Asked { request, first: good, second: &[b'"'; 32] }), 0);
-    assert_eq!(all.size, size as u64);
+    assert_eq!((all.size, all.desk.state[3]), (size as u64, 0));
 }
 
 #[test]
@@ -153,7 +167,7 @@ fn a_refused_open_changes_nothing() {
         each_refusal(opens, 4, &[(5, b"6430410"), (12, b"\xe9\xe9"), (12, b"643 04")], b"643041", 21);
     }
     for request in 13..=255 {
-        let mut all = lent(parts([0xaa; 210], [0; 3]), 64);
+        let mut all = lent(parts([0xaa; 210], [0; 4]), 64);
         let before = all.clone();
         assert_eq!(open_echo(&mut all, &Asked { request, ..SIGNAL }), 3);
         assert_eq!(all, before);
@@ -163,9 +177,10 @@ fn a_refused_open_changes_nothing() {
 #[test]
 fn an_open_keeps_the_command_in_front() {
     for old in [0, 7, 211, u64::MAX] {
-        let mut all = lent(parts([0xaa; 210], [0, 0, old]), 64);
+        let mut all = lent(parts([0xaa; 210], [0, 0, old, old]), 64);
         assert_eq!(open_echo(&mut all, &SIGNAL), 0);
-        assert_eq!((&all.out[..7], all.size, all.desk.state[0], all.desk.state[2]), (&b"AT+CSQ\r"[..], 7, 0, 7));
+        assert_eq!((&all.out[..7], all.size), (&b"AT+CSQ\r"[..], 7));
+        assert_eq!((all.desk.state[0], all.desk.state[2], all.desk.state[3]), (0, 7, 0));
         assert!(all.out[7..].iter().all(|&byte| byte == 7));
         assert_eq!(all.desk.sent, sent(b"AT+CSQ\r"));
         all.out.fill(0);
@@ -177,7 +192,7 @@ fn an_open_keeps_the_command_in_front() {
 
 #[test]
 fn bytes_behind_the_kept_command_do_not_matter() {
-    let mut all = lent(parts([0; 210], [0; 3]), 64);
+    let mut all = lent(parts([0; 210], [0; 4]), 64);
     assert_eq!(open_echo(&mut all, &SIGNAL), 0);
     for fill in [0, b'\r', b'\n', b'Q', 0xaa] {
         let mut desk = all.desk.clone();
@@ -189,20 +204,20 @@ fn bytes_behind_the_kept_command_do_not_matter() {
 #[test]
 fn a_plain_open_awaits_no_echo_whatever_was_kept() {
     for old in [0, 7, 210, 211, u64::MAX] {
-        let mut all = lent(parts(sent(b"AT+CSQ\r"), [0, 0, old]), 64);
+        let mut all = lent(parts(sent(b"AT+CSQ\r"), [0, 0, old, old]), 64);
         assert_eq!(open(&mut all, &SIGNAL), 0);
-        assert_eq!(all.desk.state[2], 0);
+        assert_eq!(all.desk.state[2..], [0, 0]);
         assert_eq!(events(&mut all.desk, LATE, 5), without_echo());
     }
 }
 
 #[test]
 fn a_size_above_210_awaits_none() {
-    let mut all = lent(parts([0; 210], [0; 3]), 64);
+    let mut all = lent(parts([0; 210], [0; 4]), 64);
     assert_eq!(open(&mut all, &SIGNAL), 0);
     for size in [0, 211, 257, 1 << 32, (1 << 32) + 7, u64::MAX] {
-        let mut desk = parts(sent(b"AT+CSQ\r"), [0, all.desk.state[1], size]);
-        let expected = vec![(6, 3, b"AT+CSQ\r".to_vec()), (2, 0, b"+CSQ: 31,99".to_vec()), (3, 0, b"OK".to_vec())];
+        let mut desk = parts(sent(b"AT+CSQ\r"), [0, all.desk.state[1], size, 40]);
+        let expected = vec![(6, 41, 3, b"AT+CSQ\r".to_vec()), (2, 42, 0, b"+CSQ: 31,99".to_vec()), (3, 43, 0, b"OK".to_vec())];
         assert_eq!(events(&mut desk, b"AT+CSQ\r\r\n+CSQ: 31,99\r\nOK\r\n", 4), expected);
     }
 }
@@ -210,31 +225,72 @@ fn a_size_above_210_awaits_none() {
 /// No content is ill-formed: an echo that is awaited while no command is open, and one that is no command.
 #[test]
 fn any_kept_bytes_are_awaited() {
-    let mut desk = parts(sent(b"AT+CSQ\r"), [0, 0, 7]);
+    let mut desk = parts(sent(b"AT+CSQ\r"), [0, 0, 7, 0]);
     assert_eq!(events(&mut desk, LATE, 3), late(6, (8, 0), 6, (6, 0)));
-    assert_eq!(desk.state[2], 0);
-    let mut desk = parts([b'z'; 210], [0, 0, 210]);
+    assert_eq!(desk.state[2..], [0, 4]);
+    let mut desk = parts([b'z'; 210], [0, 0, 210, 0]);
     let line = vec![b'z'; 210];
     let bytes = [&line[..209], b"\n", &line, b"\n", &line, b"\n"].concat();
-    assert_eq!(events(&mut desk, &bytes, 100), [(6, 3, line[..209].to_vec()), (8, 0, line.clone()), (6, 3, line)]);
+    assert_eq!(events(&mut desk, &bytes, 100), [(6, 1, 3, line[..209].to_vec()), (8, 2, 0, line.clone()), (6, 3, 3, line)]);
 }
 
 #[test]
 fn a_reset_awaits_none_and_leaves_what_was_kept() {
-    let mut all = lent(parts([0xaa; 210], [0; 3]), 64);
+    let mut all = lent(parts([0xaa; 210], [0; 4]), 64);
     assert_eq!(open_echo(&mut all, &SIGNAL), 0);
+    all.desk.state[3] = 40;
     unsafe { raw::sim7000_reset(&mut all.desk.state) };
-    assert_eq!(all.desk.state, [0; 3]);
-    assert_eq!(events(&mut all.desk.clone(), b"AT+CSQ\n", 7), [(6, 3, b"AT+CSQ".to_vec())]);
+    assert_eq!(all.desk.state, [0; 4]);
+    assert_eq!(events(&mut all.desk.clone(), b"AT+CSQ\n", 7), [(6, 1, 3, b"AT+CSQ".to_vec())]);
     assert_eq!(open(&mut all, &SIGNAL), 0);
-    assert_eq!(events(&mut all.desk, b"AT+CSQ\n+CSQ: 31,99\n", 4), [(6, 3, b"AT+CSQ".to_vec()), (2, 0, b"+CSQ: 31,99".to_vec())]);
+    assert_eq!(events(&mut all.desk, b"AT+CSQ\n+CSQ: 31,99\n", 4), [(6, 1, 3, b"AT+CSQ".to_vec()), (2, 2, 0, b"+CSQ: 31,99".to_vec())]);
 }
 
 #[test]
 fn a_refused_feed_changes_nothing() {
-    let mut all = lent(parts([0xaa; 210], [0; 3]), 64);
+    let mut all = lent(parts([0xaa; 210], [0; 4]), 64);
     assert_eq!(open_echo(&mut all, &SIGNAL), 0);
-    let (before, mut text, mut told) = (all.clone(), [7; 255], [9; 4]);
-    assert_eq!(feed(&mut all.desk, LATE, &mut text, &mut told), 10);
-    assert_eq!((all, text, told), (before, [7; 255], [9; 4]));
+    for count in [0, 40, GREATEST + 1, u64::MAX] {
+        all.desk.state[3] = count;
+        let (before, mut text, mut told) = (all.clone(), [7; 255], [9; 5]);
+        assert_eq!(feed(&mut all.desk, LATE, &mut text, &mut told), 10);
+        assert_eq!((&all, text, told), (&before, [7; 255], [9; 5]));
+    }
+}
+
+/// Every kind of line is counted, and the count stays at the greatest; a number above it is read as it.
+#[test]
+fn the_count_stays_at_the_greatest() {
+    let overlong = [&[b'a'; 257][..], b"\r\n"].concat();
+    let lines: [(&[u8], u64, &[u8]); 4] = [(b"\r\nOK\r\n", 6, b"OK"), (b"> ", 6, b"> "), (b"\n+CEREG: 5\n", 1, b"+CEREG: 5"), (&overlong, 7, b"")];
+    for (count, ordinals) in [
+        (0, [1, 2]),
+        (40, [41, 42]),
+        (GREATEST - 2, [GREATEST - 1, GREATEST]),
+        (GREATEST - 1, [GREATEST; 2]),
+        (GREATEST, [GREATEST; 2]),
+        (GREATEST + 1, [GREATEST; 2]),
+        (1 << 63, [GREATEST; 2]),
+        (u64::MAX, [GREATEST; 2]),
+    ] {
+        for (bytes, event, line) in lines {
+            let mut desk = parts([0xaa; 210], [0, 0, 0, count]);
+            for ordinal in ordinals {
+                assert_eq!(events(&mut desk, bytes, 64), [(event, ordinal, 0, line.to_vec())]);
+                assert_eq!(desk.state, [0, 0, 0, ordinal]);
+            }
+        }
+    }
+}
+
+#[test]
+fn a_feed_with_no_event_leaves_the_count() {
+    for count in [0, 40, GREATEST, GREATEST + 1, u64::MAX] {
+        for (bytes, held) in [(&b""[..], 0), (b"\n", 0), (b"\r\n\r\n", 0), (b"+C", 2), (b"\n>", 1), (&[b'a'; 300], 258)] {
+            let (mut desk, mut text, mut told) = (parts([0xaa; 210], [0, 0, 0, count]), [7; 256], [9; 5]);
+            assert_eq!(feed(&mut desk, bytes, &mut text, &mut told), 0);
+            assert_eq!(told, [0, bytes.len() as u64, 0, 0, 0]);
+            assert_eq!(desk.state, [held, 0, 0, count.min(GREATEST)]);
+        }
+    }
 }

@@ -19,7 +19,7 @@ module _ (line : List ℕ) (len : ℕ) (chunk text told : List ℕ) (f : Fed) (i
   unfolding feeds
   fed-quiet e = rw (sym is, e)
 
-  pub fed-heard : {h : Event} {n size : ℕ} → f .answer ≡ read (event h n size)
+  pub fed-heard : {h : Event} {ordinal n size : ℕ} → f .answer ≡ read (event h ordinal n size)
       → left 1 (f .state .wire .bytes) (f .state .wire .len) (f .text) (n ∷ size ∷ []) ≡ feeds line len chunk text told
   unfolding feeds
   fed-heard e = rw (sym is, e)

@@ -22,7 +22,7 @@ idle line len = record { wire = record { bytes = line; len = len }; command = ne
 abbrev pub leftBy : Reading Heard → Fed → Left → Left
 leftBy (refused k) f before = record { answer = k; line = before .line; len = before .len; text = before .text; told = before .told }
 leftBy (read (quiet n)) f before = left 0 (f .state .wire .bytes) (f .state .wire .len) (f .text) (n ∷ 0 ∷ [])
-leftBy (read (event e n size)) f before = left 1 (f .state .wire .bytes) (f .state .wire .len) (f .text) (n ∷ size ∷ [])
+leftBy (read (event e ordinal n size)) f before = left 1 (f .state .wire .bytes) (f .state .wire .len) (f .text) (n ∷ size ∷ [])
 
 unfoldable pub feeds : List ℕ → ℕ → List ℕ → List ℕ → List ℕ → Left
 feeds line len chunk text told = leftBy (fed (idle line len) chunk text .answer) (fed (idle line len) chunk text) (left 0 line len text told)

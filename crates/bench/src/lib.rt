@@ -26,6 +26,7 @@ pub extern "C" fn bench_feed(
         command: Command::Idle,
         sent: [0u8; 210],
         echo: 0,
+        counted: 0,
     };
     let fed = desk.feed(chunk, text);
     let after = fed.desk;
@@ -42,6 +43,7 @@ pub extern "C" fn bench_feed(
         }
         FedAnswer::Heard {
             event: _,
+            ordinal: _,
             taken,
             size,
         } => {

@@ -1,12 +1,13 @@
 -- The runs of specs/Examples.antt, computed.
 use Prim.Native.Nat.{ℕ}
-use mathlib.Core.Path.{_≡_, refl, ap, _∙_}
+use mathlib.Core.Path.{_≡_, refl, ap}
 use mathlib.Core.Bool.{false}
 use mathlib.Core.Logic.{⊎-elim}
 use mathlib.Core.Option.{none, some}
 use mathlib.Core.List.{List, []}
 use lib.ListN.{replicate}
 use Rattle.text.specs.Bytes.{bytes, startsWith, same, endsWith, has}
+use Rattle.text.specs.Copy.{least}
 use Rattle.text.specs.Line.{lineCheck, checked}
 use Rattle.text.specs.Number.{digitValue, digitsOf, valueOf, magnitude, unsigned, signed}
 use Rattle.text.specs.Reading.{Reading, read, only, either, sized, needElse, mapped, firstOf}
@@ -36,20 +37,21 @@ use Rattle.text.proofs.Tests.{both, never}
 use Rattle.trial.proofs.Equipment.{version-sort}
 use Rattle.trial.proofs.Order.{undated-sort}
 use Rattle.desk.specs.Machine.{tells, judgeAll}
+use Rattle.desk.specs.Ordinal.{capped, number}
 use Rattle.desk.specs.Lines.{cutter}
 use Rattle.desk.specs.Judge.{table, isEcho, ruling, judge}
-use Rattle.desk.specs.Rules.{Mode, rulesOf, Plain, plain}
+use Rattle.desk.specs.Rules.{Mode, rulesOf}
 use Rattle.desk.specs.Desk.{State, desk, resetState}
 use Rattle.desk.specs.Keeps.{openedBy}
 use Rattle.desk.specs.Examples.{csq, Examples, VersionTaken, UndatedStray}
 use Rattle.desk.specs.Demand.{accepts}
-use Rattle.desk.proofs.Commands.{echo-front, command-some}
-use Rattle.desk.proofs.Demand.{by-view, plain-ruled, open-fresh}
+use Rattle.desk.proofs.Commands.{echo-front}
+use Rattle.desk.proofs.Demand.{begun-ruled, open-begins}
 use Rattle.desk.proofs.Lives.{open-accepts}
 
 pub examples : Examples
-unfolding judgeAll judge ruling isEcho table lineSort lineSaid saidText allReadings urcReadings checked lineCheck utf8 charSize behind tells cutter cutOne bare startsWith same endsWith has only either sized needElse mapped firstOf readings okText errorText promptText closeText iccidText cardText csqText csqRest csqCodes levelOf cpsiText copsText cntpText httptofsText imeiText cmgfText cmgrText ugnsinfText cregText cgregText ceregText ceregFields ceregStatus unsigned signed magnitude digitsOf digitValue valueOf
-examples = record { shown = refl; echoed = refl; fault = refl }
+unfolding number capped least judgeAll judge ruling isEcho table lineSort lineSaid saidText allReadings urcReadings checked lineCheck utf8 charSize behind tells cutter cutOne bare startsWith same endsWith has only either sized needElse mapped firstOf readings okText errorText promptText closeText iccidText cardText csqText csqRest csqCodes levelOf cpsiText copsText cntpText httptofsText imeiText cmgfText cmgrText ugnsinfText cregText cgregText ceregText ceregFields ceregStatus unsigned signed magnitude digitsOf digitValue valueOf
+examples = record { shown = refl; echoed = refl; fault = refl; counted = refl }
 
 pub version-taken : VersionTaken
 unfolding judge ruling table
@@ -70,8 +72,6 @@ undated-stray l p u (some a) ks = rw (no-echo a l u, undated-sort l p u)
 -- A command is given up with a reset, and the next is opened: whatever the desk's past, it tells what these rules give.
 pub after-reset : (mode : Mode) (s : State) (given : List ℕ) → tells desk (openedBy mode (resetState s) GetSignalQuality [] [] (replicate 256 0) .state) given ≡ rulesOf (csq mode) given
 after-reset mode s given =
-    by-view _ given
-    ∙ ap (λ (x : Plain). tells plain x given)
-    (open-fresh (resetState s) (csq mode) (command-some mode getSignalQuality) (replicate 256 0) (read (commandOf getSignalQuality))
-    (ap (λ (a : Reading ℕ). accepts a) (open-accepts (resetState s) (csq mode) (commandOf getSignalQuality) (replicate 256 0) refl refl refl .0)))
-    ∙ plain-ruled (csq mode) given
+    let opens = open-accepts (resetState s) (csq mode) (commandOf getSignalQuality) (replicate 256 0) refl refl refl .0 in
+    let begins = open-begins mode getSignalQuality (resetState s) (replicate 256 0) (read (commandOf getSignalQuality)) (ap (λ (a : Reading ℕ). accepts a) opens) in
+    begun-ruled begins given

@@ -1,5 +1,5 @@
 -- Laws of a feed: a line has at most 256 bytes, what is made of a line, and a search with its ruling is the feed.
-use Prim.Native.Nat.{ℕ, _+_, _≤_, _<_}
+use Prim.Native.Nat.{ℕ, suc, _+_, _≤_, _<_}
 use mathlib.Core.Path.{_≡_, refl, sym, ap, _∙_}
 use mathlib.Core.Bool.{true, false}
 use mathlib.Core.Logic.{⊎-elim}
@@ -13,6 +13,7 @@ use borrow.Author.Tests.{lt-ltb, le-ltb, ltb-false}
 use Rattle.text.specs.Reading.{Reading, read, refused}
 use Rattle.desk.specs.Cut.{View, dropping, held, bare, long, isPrompt, ended, cutOne}
 use Rattle.desk.specs.Machine.{Stop, onward, feed, Ruled, commandOf}
+use Rattle.desk.specs.Ordinal.{capped, Numbered}
 use Rattle.desk.specs.Lines.{Line, overlong, line, lineOf}
 use Rattle.desk.specs.Judge as J
 use Rattle.desk.specs.Judge.{Seen, judge}
@@ -78,15 +79,17 @@ module _ (k : Kept) (n : ℕ) (text : List ℕ) where
   pub ruled-none : Tells k none n text k (read (H.quiet n)) text
   ruled-none = record { commands = refl; answers = refl; texts = refl }
 
-  pub ruled-overlong : {k′ : Kept} → k′ ≡ judgeKept k overlong .command → Tells k (some overlong) n text k′ (read (event J.Overlong n 0)) text
-  unfolding judgeKept judge
-  ruled-overlong e = record { commands = e; answers = refl; texts = refl }
+  -- the line's ordinal, as the code has it
+  module _ {ordinal : ℕ} (next : ordinal ≡ capped (suc (k .counted))) where
+    pub ruled-overlong : {k′ : Kept} → k′ ≡ judgeKept k overlong .command → Tells k (some overlong) n text k′ (read (event J.Overlong ordinal n 0)) text
+    unfolding judgeKept judge
+    ruled-overlong e = record { commands = e; answers = rw next; texts = refl }
 
-  pub ruled-line : (s : List ℕ) (size : ℕ) {k′ : Kept} {e : J.Event} {after : List ℕ} → size ≤ length s → Judges k (take size s) k′ e → after ≡ take size s ++ drop size text
-      → Tells k (some (line (take size s))) n text k′ (read (event e n size)) after
-  ruled-line s size h j f =
-      let few = length-take-le size s h in
-      record { commands = ap (λ (x : Ruled Kept Seen). x .command) j; answers = rw (← j, few); texts = rw (← j, few) f }
+    pub ruled-line : (s : List ℕ) (size : ℕ) {k′ : Kept} {e : J.Event} {after : List ℕ} → size ≤ length s → Judges k (take size s) k′ e → after ≡ take size s ++ drop size text
+        → Tells k (some (line (take size s))) n text k′ (read (event e ordinal n size)) after
+    ruled-line s size h j f =
+        let few = length-take-le size s h in
+        record { commands = ap (λ (x : Ruled Kept (Numbered Seen)). x .command) j; answers = rw (← j, few, next); texts = rw (← j, few) f }
 
 -- the line is laid at the front of the text buffer
 pub laid-front : (s text : List ℕ) (size e : ℕ) (after : List ℕ) → size ≤ length s → size ≤ length text → LayKeeps (take size s) 0 text e after → after ≡ take size s ++ drop size text

@@ -1,9 +1,9 @@
 -- A command that is kept is read back: what the desk keeps after a line, or after an open, is the command that the rules have there.
-use Prim.Native.Nat.{ℕ, _≤_, _<_}
+use Prim.Native.Nat.{ℕ, suc, _≤_, _<_}
 use mathlib.Core.Path.{_≡_, refl, sym, ap, _∙_}
 use mathlib.Core.Bool.{true, false}
 use mathlib.Core.Logic.{⊎-elim}
-use mathlib.Core.List.{List, _++_}
+use mathlib.Core.List.{List, [], _∷_, _++_}
 use mathlib.Core.Option.{Option, none, some}
 use native.Mathlib.Omega.{arith}
 use lib.ListN.{length, take, drop, length-append, length-take}
@@ -13,13 +13,16 @@ use borrow.Author.Tests.{le-ltb, ltb-false, eqb-true, eqb-false, ne-eqb}
 use Rattle.text.specs.Reading.{Reading}
 use Rattle.text.proofs.Tests.{both}
 use Rattle.trial.specs.Sort.{Sort, lineSort}
+use Rattle.desk.specs.Machine.{judgeAll}
+use Rattle.desk.specs.Ordinal.{capped, Numbered, number}
 use Rattle.desk.specs.Lines.{Line, overlong}
-use Rattle.desk.specs.Judge.{Echo, Command, awaiting, idle, Ruling, table, isEcho, ruling, judge}
+use Rattle.desk.specs.Judge.{Echo, Seen, Command, awaiting, idle, Ruling, table, isEcho, ruling, judge}
 use Rattle.desk.specs.Desk.{Kept, echoIn, commandKept, sentIn, sizeIn, keep, judgeKept}
 use Rattle.desk.specs.Search.{Judges}
 use Rattle.desk.specs.Says.{commandSays}
 use Rattle.desk.specs.declared.command.Command.{Command as CommandCode}
 use Rattle.desk.specs.declared.command.Command.the-variants.{Idle, One, Two}
+use Rattle.desk.proofs.Numbering.{number-capped}
 use Rattle.desk.proofs.Judging.{table-plain, ruled-echo, ruled-early, echo-after}
 
 -- an echo that is awaited has a byte
@@ -66,6 +69,17 @@ pub keep-judged : (k : Kept) (l : Line) → commandKept (judgeKept k l .command)
 unfolding judgeKept
 keep-judged k l = rw (echo-after lineSort (λ o. echoIn (k .sent) (sizeIn o) ≡ o) refl (commandKept k) (echo-again (k .sent) (k .size)) l)
 
+-- the lines that the desk judges are told as the rules tell them, and numbered
+pub judge-numbered : (k : Kept) (ls : List Line) → judgeAll judgeKept k ls ≡ number (k .counted) (judgeAll (judge lineSort) (commandKept k) ls)
+unfolding judgeAll number judgeKept
+judge-numbered k [] = refl
+judge-numbered k (l ∷ ls) =
+    let k′ = judgeKept k l .command in
+    ap (λ (es : List (Numbered Seen)). judgeKept k l .event ∷ es)
+    (judge-numbered k′ ls
+    ∙ number-capped (suc (k .counted)) (judgeAll (judge lineSort) (commandKept k′) ls)
+    ∙ ap (λ (c : Command). number (suc (k .counted)) (judgeAll (judge lineSort) c ls)) (keep-judged k l))
+
 -- ---- as the code has the size of the echo that is awaited
 
 module _ (k : Kept) (size : ℕ) (is : size ≡ sizeIn (echoIn (k .sent) (k .size))) where
@@ -81,21 +95,21 @@ module _ (k : Kept) (size : ℕ) (is : size ≡ sizeIn (echoIn (k .sent) (k .siz
       is refl
 
   -- an overlong line leaves the command
-  pub overlong-keeps : record { sent = k .sent; size = size; awaited = k .awaited } ≡ judgeKept k overlong .command
+  pub overlong-keeps : record { sent = k .sent; size = size; awaited = k .awaited; counted = capped (suc (k .counted)) } ≡ judgeKept k overlong .command
   unfolding judgeKept judge
-  overlong-keeps = ap (λ (n : ℕ). record { sent = k .sent; size = n; awaited = k .awaited }) is
+  overlong-keeps = ap (λ (n : ℕ). record { sent = k .sent; size = n; awaited = k .awaited; counted = capped (suc (k .counted)) }) is
 
   module _ (l : List ℕ) where
-    pub line-plain : size ≡ 0 → {c : Command} {s : Reading Sort} {j : Ruling} → c ≡ awaiting (k .awaited) → s ≡ lineSort l → j ≡ table c s → Judges k l (record { sent = k .sent; size = 0; awaited = j .command .awaited }) (j .event)
+    pub line-plain : size ≡ 0 → {c : Command} {s : Reading Sort} {j : Ruling} → c ≡ awaiting (k .awaited) → s ≡ lineSort l → j ≡ table c s → Judges k l (record { sent = k .sent; size = 0; awaited = j .command .awaited; counted = capped (suc (k .counted)) }) (j .event)
     unfolding judgeKept judge ruling
     line-plain z c s e = rw (none-awaited z, table-plain (k .awaited) (lineSort l), e, c, s)
 
     module _ (more : size ≡ 0 → ⊥) (p : List ℕ) (front : p ≡ take size (k .sent)) where
-      pub line-echo : isEcho p l ≡ true → Judges k l (record { sent = k .sent; size = 0; awaited = k .awaited }) Echo
+      pub line-echo : isEcho p l ≡ true → Judges k l (record { sent = k .sent; size = 0; awaited = k .awaited; counted = capped (suc (k .counted)) }) Echo
       unfolding judgeKept judge
       line-echo t = rw (some-awaited more .0, ruled-echo lineSort (take size (k .sent)) (k .awaited) l (ap (λ (x : List ℕ). isEcho x l) (sym front) ∙ t))
 
-      pub line-early : isEcho p l ≡ false → {s : Reading Sort} {j : Ruling} → s ≡ lineSort l → j ≡ table idle s → Judges k l (record { sent = k .sent; size = size; awaited = k .awaited }) (j .event)
+      pub line-early : isEcho p l ≡ false → {s : Reading Sort} {j : Ruling} → s ≡ lineSort l → j ≡ table idle s → Judges k l (record { sent = k .sent; size = size; awaited = k .awaited; counted = capped (suc (k .counted)) }) (j .event)
       unfolding judgeKept judge
       line-early t s e =
           let a = some-awaited more in

@@ -1,4 +1,5 @@
 pub mod Machine
+pub mod Numbering
 pub mod Cutting
 pub mod Searching
 pub mod Judging
@@ -10,6 +11,7 @@ pub mod Commands
 pub mod ManualOperator
 pub mod Slips
 pub mod Demand
+pub mod Traced
 pub mod Accepted
 pub mod Lending
 pub mod OpeningLent

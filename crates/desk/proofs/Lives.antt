@@ -14,6 +14,7 @@ use Rattle.at_command.specs.declared.request.Request.{Request}
 use Rattle.at_command.specs.declared.request.Request.the-variants.{GetSignalQuality}
 use Rattle.at_command.proofs.OneRequest.{encoded, kind}
 use Rattle.desk.specs.Machine.{Stop, feed}
+use Rattle.desk.specs.Ordinal.{Numbered}
 use Rattle.desk.specs.Judge as J
 use Rattle.desk.specs.Judge.{Seen, Command, isOpen}
 use Rattle.desk.specs.Desk.{State, viewOf, commandKept, keep, judgeKept, desk, Heard, quiet, event, fed, isClear, opened}
@@ -57,7 +58,7 @@ module _ (Opens : Openings) (Fed : Feeds) (sound : Sound Opens Fed) (Good : Stat
       let v = serves s (b ∷ bs) g in
       let n = v .turn .taken in
       let is : feed desk s (b ∷ bs) .taken ≡ n =
-      ap (λ (c : List ℕ). feed desk s c .taken) (sym (v .whole)) ∙ ap (λ (f : Stop State Seen). f .taken) (sound .feeds s (v .next) (v .turn) (v .call)) in
+      ap (λ (c : List ℕ). feed desk s c .taken) (sym (v .whole)) ∙ ap (λ (f : Stop State (Numbered Seen)). f .taken) (sound .feeds s (v .next) (v .turn) (v .call)) in
       let few : length (drop n (b ∷ bs)) ≤ most = omega (arith, feed-some desk s b bs, is, length-drop n (b ∷ bs)) in
       let rest = through most (v .next) (drop n (b ∷ bs)) (v .good) few in
       let all-taken = ap (λ (l : List ℕ). take n l ++ bytesOf (rest .turns)) (v .whole) ∙ ap (λ (l : List ℕ). take n (b ∷ bs) ++ l) (rest .all) ∙ take-append-drop n (b ∷ bs) in
@@ -105,7 +106,9 @@ command-says (a ∷ b ∷ k ∷ ks) h = absurd (omega arith)
 
 state-says : (s : State) → length (s .command .awaited) ≤ 2 → stateOf (deskIn s) ≡ s
 unfolding deskIn
-state-says s h = ap (λ (ks : List Kind). record { wire = s .wire; command = record { sent = s .command .sent; size = s .command .size; awaited = ks } }) (command-says (s .command .awaited) h)
+state-says s h =
+    ap (λ (ks : List Kind). record { wire = s .wire; command = record { sent = s .command .sent; size = s .command .size; awaited = ks; counted = s .command .counted } })
+    (command-says (s .command .awaited) h)
 
 event-says : (e : J.Event) → eventSays (eventIn e) ≡ e
 unfolding eventIn
@@ -122,7 +125,7 @@ answer-says : (a : Reading Heard) → answerSays (answerIn a) ≡ a
 unfolding answerIn
 answer-says (refused k) = refl
 answer-says (read (quiet n)) = refl
-answer-says (read (event e n size)) = ap (λ (x : J.Event). read (event x n size)) (event-says e)
+answer-says (read (event e ordinal n size)) = ap (λ (x : J.Event). read (event x ordinal n size)) (event-says e)
 
 encoded-says : (a : Reading ℕ) → encodedSays (encoded a) ≡ a
 encoded-says (read n) = refl

@@ -91,6 +91,11 @@ module _ {S T Q : Type 0} (m : Machine S T) (q : Machine Q T) (f : S → Q) (sam
   tells-along s [] = refl
   tells-along s (b ∷ bs) = rw (same s b) (ap (shown (m s b .tell)) (tells-along (m s b .state) bs))
 
+  pub after-along : (s : S) (bs : List ℕ) → after q (f s) bs ≡ f (after m s bs)
+  unfolding after
+  after-along s [] = refl
+  after-along s (b ∷ bs) = rw (same s b) (after-along (m s b .state) bs)
+
 -- ---- judged tells
 
 module _ {C A B S : Type 0} (rule : C → A → Ruled C B) (m : Machine S A) where

@@ -39,6 +39,6 @@ operators-opened plmn second out out′ =
     record {
       value = λ mode d r kept. operator-opened _ _ out plmn kept;
       lent = λ mode d d′ r kept. operator-opened _ _ out plmn kept;
-      parts = λ len command echo r kept. operator-opened _ _ out plmn (kept (replicate 257 0) [] refl);
-      echoParts = λ len command sent echo r sent′ kept. operator-opened _ _ out plmn (kept (replicate 257 0) refl);
+      parts = λ len command echo counted r kept. operator-opened _ _ out plmn (kept (replicate 257 0) [] refl);
+      echoParts = λ len command sent echo counted r sent′ kept. operator-opened _ _ out plmn (kept (replicate 257 0) refl);
     }

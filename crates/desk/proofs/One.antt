@@ -64,20 +64,20 @@ event-back E.Echo = refl
 unfoldable pub answerIn : Reading Heard → FedAnswer
 answerIn (refused k) = F.Refused k
 answerIn (read (quiet n)) = F.Quiet n
-answerIn (read (event e n size)) = F.Heard (eventIn e) n size
+answerIn (read (event e ordinal n size)) = F.Heard (eventIn e) ordinal n size
 
 answer-back : (a : FedAnswer) → answerIn (answerSays a) ≡ a
 unfolding answerIn
 answer-back (F.Refused k) = refl
 answer-back (F.Quiet n) = refl
-answer-back (F.Heard e n size) = ap (λ (x : Event). F.Heard x n size) (event-back e)
+answer-back (F.Heard e ordinal n size) = ap (λ (x : Event). F.Heard x ordinal n size) (event-back e)
 
 unfoldable pub deskIn : State → Desk
-deskIn s = record { cutter = record { line = s .wire .bytes; len = s .wire .len }; command = commandIn (s .command .awaited); sent = s .command .sent; echo = s .command .size }
+deskIn s = record { cutter = record { line = s .wire .bytes; len = s .wire .len }; command = commandIn (s .command .awaited); sent = s .command .sent; echo = s .command .size; counted = s .command .counted }
 
 desk-back : (d : Desk) → deskIn (stateOf d) ≡ d
 unfolding deskIn
-desk-back d = ap (λ (c : Command). record { cutter = d .cutter; command = c; sent = d .sent; echo = d .echo }) (command-back (d .command))
+desk-back d = ap (λ (c : Command). record { cutter = d .cutter; command = c; sent = d .sent; echo = d .echo; counted = d .counted }) (command-back (d .command))
 
 -- ---- one answer
 
@@ -124,23 +124,24 @@ same-parts : (r q : OpenedParts) {line sent sent′ out out′ : List ℕ} {len 
 same-parts r q g =
     let after = same-command (r .command) (q .command) (ap (λ (y : Opened). y .state .command .awaited) g) in
     let size : r .echo ≡ q .echo = ap (λ (y : Opened). y .state .command .size) g in
+    let counts : r .counted ≡ q .counted = ap (λ (y : Opened). y .state .command .counted) g in
     let answer = same-encoded (r .answer) (q .answer) (ap (λ (y : Opened). y .answer) g) in
-    rw (after, size, answer)
+    rw (after, size, counts, answer)
 
 -- with the output buffer
 -- one answer: open_on
-pub one-open-on : (len : ℕ) (command : Command) (echo : ℕ) (request : Request) (first second out : List ℕ) (r q : OpenedParts) (out′ out″ : List ℕ)
-    → OpenOnKeeps len command echo request first second out r out′ → OpenOnKeeps len command echo request first second out q out″ → (r ≡ q) × (out′ ≡ out″)
-one-open-on len command echo request first second out r q out′ out″ e f =
+pub one-open-on : (len : ℕ) (command : Command) (echo counted : ℕ) (request : Request) (first second out : List ℕ) (r q : OpenedParts) (out′ out″ : List ℕ)
+    → OpenOnKeeps len command echo counted request first second out r out′ → OpenOnKeeps len command echo counted request first second out q out″ → (r ≡ q) × (out′ ≡ out″)
+one-open-on len command echo counted request first second out r q out′ out″ e f =
     let g = e (replicate 257 0) [] refl ∙ sym (f (replicate 257 0) [] refl) in
     (same-parts r q g, ap (λ (y : Opened). y .out) g)
 
 -- with the bytes that are kept and the output buffer
 -- one answer: open_echo_on
-pub one-open-echo-on : (len : ℕ) (command : Command) (sent : List ℕ) (echo : ℕ) (request : Request) (first second out : List ℕ) (r q : OpenedParts) (sent′ sent″ out′ out″ : List ℕ)
-    → OpenEchoOnKeeps len command sent echo request first second out r sent′ out′ → OpenEchoOnKeeps len command sent echo request first second out q sent″ out″
+pub one-open-echo-on : (len : ℕ) (command : Command) (sent : List ℕ) (echo counted : ℕ) (request : Request) (first second out : List ℕ) (r q : OpenedParts) (sent′ sent″ out′ out″ : List ℕ)
+    → OpenEchoOnKeeps len command sent echo counted request first second out r sent′ out′ → OpenEchoOnKeeps len command sent echo counted request first second out q sent″ out″
     → (r ≡ q) × (sent′ ≡ sent″) × (out′ ≡ out″)
-one-open-echo-on len command sent echo request first second out r q sent′ sent″ out′ out″ e f =
+one-open-echo-on len command sent echo counted request first second out r q sent′ sent″ out′ out″ e f =
     let g = e (replicate 257 0) refl ∙ sym (f (replicate 257 0) refl) in
     (same-parts r q g, ap (λ (y : Opened). y .state .command .sent) g, ap (λ (y : Opened). y .out) g)
 
@@ -163,12 +164,13 @@ one-feed-lent d chunk text d′ d″ r q text′ text″ e f =
 
 -- with the lent array and the text buffer
 -- one answer: feed_on
-pub one-feed-on : (line : List ℕ) (len : ℕ) (command : Command) (sent : List ℕ) (echo : ℕ) (chunk text : List ℕ) (r q : FedParts) (line′ line″ text′ text″ : List ℕ)
-    → FeedOnKeeps line len command sent echo chunk text r line′ text′ → FeedOnKeeps line len command sent echo chunk text q line″ text″ → (r ≡ q) × (line′ ≡ line″) × (text′ ≡ text″)
-one-feed-on line len command sent echo chunk text r q line′ line″ text′ text″ e f =
+pub one-feed-on : (line : List ℕ) (len : ℕ) (command : Command) (sent : List ℕ) (echo counted : ℕ) (chunk text : List ℕ) (r q : FedParts) (line′ line″ text′ text″ : List ℕ)
+    → FeedOnKeeps line len command sent echo counted chunk text r line′ text′ → FeedOnKeeps line len command sent echo counted chunk text q line″ text″ → (r ≡ q) × (line′ ≡ line″) × (text′ ≡ text″)
+one-feed-on line len command sent echo counted chunk text r q line′ line″ text′ text″ e f =
     let g = e ∙ sym f in
     let size : r .len ≡ q .len = ap (λ (y : Fed). y .state .wire .len) g in
     let after = same-command (r .command) (q .command) (ap (λ (y : Fed). y .state .command .awaited) g) in
     let awaited : r .echo ≡ q .echo = ap (λ (y : Fed). y .state .command .size) g in
+    let counts : r .counted ≡ q .counted = ap (λ (y : Fed). y .state .command .counted) g in
     let answer = same-answer (r .answer) (q .answer) (ap (λ (y : Fed). y .answer) g) in
-    (rw (size, after, awaited, answer), ap (λ (y : Fed). y .state .wire .bytes) g, ap (λ (y : Fed). y .text) g)
+    (rw (size, after, awaited, counts, answer), ap (λ (y : Fed). y .state .wire .bytes) g, ap (λ (y : Fed). y .text) g)

@@ -138,7 +138,7 @@ read-same e = cc
 module _ (s : State) (a : Asked) (ks : List Kind) (out : List ℕ) {o : Opened} {n : ℕ} (is : o ≡ opened s (awaiting ks) (encodeReading a (length out)) out) (size : o .answer ≡ read n)
     (numbers : Numbers a) (full : length (s .command .sent) ≡ 210) where
   pub echo-kept : {piece sent′ : List ℕ} {e : ℕ} → piece ≡ partOf (o .out) 0 n → LayKeeps piece 0 (s .command .sent) e sent′
-      → record { state = record { wire = s .wire; command = record { sent = sent′; size = n; awaited = o .state .command .awaited } }; answer = read n; out = o .out }
+      → record { state = record { wire = s .wire; command = record { sent = sent′; size = n; awaited = o .state .command .awaited; counted = o .state .command .counted } }; answer = read n; out = o .out }
       ≡ opened s (echoing (commandOf a) ks) (encodeReading a (length out)) out
   echo-kept {piece} {sent′} front laid =
       let w = open-accepted s out (awaiting ks) (encodeReading a (length out)) (ap (λ (x : Opened). accepts (x .answer)) (sym is) ∙ ap accepts size) in

@@ -14,7 +14,7 @@ use Rattle.trial.specs.Sort.{unsolicited, lineSort}
 use Rattle.desk.specs.Machine.{Machine, shown, tells, after, Ruled, commandOf, judged, judgeAll, commandAfter}
 use Rattle.desk.specs.Lines.{Line, overlong, line, cutter, linesOf, Whole}
 use Rattle.desk.specs.Judge.{Unsolicited, Overlong, Seen, Command, awaiting, echoing, idle, isEcho, ruling, judge}
-use Rattle.desk.specs.Rules.{rulesOf, Plain, plain, fresh}
+use Rattle.desk.specs.Rules.{eventsOf, Plain, plain, fresh}
 use Rattle.desk.specs.Slips.{Leaves, keep, strike, Script, end, byte, slip, ownBytes, allBytes}
 use Rattle.desk.specs.Slips as Struck
 use Rattle.desk.specs.Demand.{NoEcho, May, unasked, early, slippedIn}
@@ -173,7 +173,7 @@ slipped-events {s} (byte b k) g = slipped-events k (good-stays s b g)
 slipped-events {s} (slip w (unasked l start whole is sort) k) g =
     rw (line-tells s w start, is, line-judged (s .command) g l sort) (ap (λ (es : List Seen). record { event = Unsolicited; line = l } ∷ es) (slipped-events k g))
 slipped-events {s} (slip w (early sent start whole awaited other) k) g =
-    rw (line-tells s w start, early-events (s .command) sent awaited (linesOf w) other) (ap (λ (es : List Seen). rulesOf idle w ++ es) (slipped-events k g))
+    rw (line-tells s w start, early-events (s .command) sent awaited (linesOf w) other) (ap (λ (es : List Seen). eventsOf idle w ++ es) (slipped-events k g))
 
 -- ---- the same with no script: behind whole lines that have no echo the desk is as it was after the open
 
@@ -189,15 +189,15 @@ module _ (sent : List ℕ) (ks : List Kind) (before w rest : List ℕ) (whole₁
   own-tells : tells plain s₀ (before ++ rest) ≡ tells plain s₀ before ++ tells plain s₀ rest
   own-tells = joins before rest whole₁ none₁
 
-  all-tells : tells plain s₀ (before ++ (w ++ rest)) ≡ tells plain s₀ before ++ (rulesOf idle w ++ tells plain s₀ rest)
+  all-tells : tells plain s₀ (before ++ (w ++ rest)) ≡ tells plain s₀ before ++ (eventsOf idle w ++ tells plain s₀ rest)
   all-tells =
       joins before (w ++ rest) whole₁ none₁
       ∙ ap (λ (l : List Seen). tells plain s₀ before ++ l)
       (joins w rest whole₂ none₂ ∙ ap (λ (l : List Seen). l ++ tells plain s₀ rest) (line-tells s₀ w refl ∙ early-events (echoing sent ks) sent refl (linesOf w) none₂))
 
-  pub early-leaves : Leaves (tells plain s₀ (before ++ (w ++ rest))) (rulesOf idle w) (tells plain s₀ (before ++ rest))
+  pub early-leaves : Leaves (tells plain s₀ (before ++ (w ++ rest))) (eventsOf idle w) (tells plain s₀ (before ++ rest))
   early-leaves =
       rw (all-tells, own-tells)
       (all-kept (tells plain s₀ before)
-      (subst (λ (l : List Seen). Leaves (rulesOf idle w ++ tells plain s₀ rest) l (tells plain s₀ rest)) (append-nil (rulesOf idle w))
-      (all-struck (rulesOf idle w) (none-struck (tells plain s₀ rest)))))
+      (subst (λ (l : List Seen). Leaves (eventsOf idle w ++ tells plain s₀ rest) l (tells plain s₀ rest)) (append-nil (eventsOf idle w))
+      (all-struck (eventsOf idle w) (none-struck (tells plain s₀ rest)))))

@@ -15,7 +15,8 @@ use Rattle.at_command.specs.declared.request.Request.{Request}
 use Rattle.at_command.specs.declared.request.Encoded.{Encoded}
 use Rattle.desk.specs.Cut.{held, bare, cutOne}
 use Rattle.trial.specs.Sort.{lineSort}
-use Rattle.desk.specs.Machine.{tells, feed, eventOf}
+use Rattle.desk.specs.Machine.{tells, feed, commandOf, eventOf}
+use Rattle.desk.specs.Ordinal.{Numbered}
 use Rattle.desk.specs.Lines as L
 use Rattle.desk.specs.Lines.{Line, overlong, cutter, linesOf}
 use Rattle.desk.specs.Judge.{Overlong, Seen, idle, judge}
@@ -60,15 +61,16 @@ pub feed-lent-refused : (d : Desk) (chunk text : List ℕ) (d′ : Desk) (r : Fe
     → (d′ ≡ d) × (text′ ≡ text)
 feed-lent-refused d chunk text d′ r text′ kept e = feed-refused d chunk text (record { desk = d′; answer = r }) text′ kept e
 
-pub feed-on-refused : (line : List ℕ) (len : ℕ) (command : CommandCode) (sent : List ℕ) (echo : ℕ) (chunk text : List ℕ) (r : FedParts) (line′ text′ : List ℕ) {k : ℕ}
-    → FeedOnKeeps line len command sent echo chunk text r line′ text′ → answerSays (r .answer) ≡ refused k
-    → (line′ ≡ line) × (r .len ≡ len) × (r .command ≡ command) × (r .echo ≡ echo) × (text′ ≡ text)
-feed-on-refused line len command sent echo chunk text r line′ text′ kept e =
-    let s = fed-same (stateIn line len command sent echo) chunk text (partsSays r line′ sent text′) kept e in (
+pub feed-on-refused : (line : List ℕ) (len : ℕ) (command : CommandCode) (sent : List ℕ) (echo counted : ℕ) (chunk text : List ℕ) (r : FedParts) (line′ text′ : List ℕ) {k : ℕ}
+    → FeedOnKeeps line len command sent echo counted chunk text r line′ text′ → answerSays (r .answer) ≡ refused k
+    → (line′ ≡ line) × (r .len ≡ len) × (r .command ≡ command) × (r .echo ≡ echo) × (r .counted ≡ counted) × (text′ ≡ text)
+feed-on-refused line len command sent echo counted chunk text r line′ text′ kept e =
+    let s = fed-same (stateIn line len command sent echo counted) chunk text (partsSays r line′ sent text′) kept e in (
       ap (λ (x : State). x .wire .bytes) (s .0),
       ap (λ (x : State). x .wire .len) (s .0),
       same-command (r .command) command (ap (λ (x : State). x .command .awaited) (s .0)),
       ap (λ (x : State). x .command .size) (s .0),
+      ap (λ (x : State). x .command .counted) (s .0),
       s .1,
     )
 
@@ -81,32 +83,54 @@ pub open-lent-refused : (mode : Mode) (d : Desk) (request : Request) (first seco
     → OpenLentKeeps mode d request first second out d′ r out′ → encodedSays r ≡ refused k → (d′ ≡ d) × (out′ ≡ out)
 open-lent-refused mode d request first second out d′ r out′ kept e = open-refused mode d request first second out (record { desk = d′; answer = r }) out′ kept e
 
-pub open-on-refused : (len : ℕ) (command : CommandCode) (echo : ℕ) (request : Request) (first second out : List ℕ) (r : OpenedParts) (out′ : List ℕ) {k : ℕ}
-    → OpenOnKeeps len command echo request first second out r out′ → encodedSays (r .answer) ≡ refused k → (r .command ≡ command) × (r .echo ≡ echo) × (out′ ≡ out)
-open-on-refused len command echo request first second out r out′ kept e =
+pub open-on-refused : (len : ℕ) (command : CommandCode) (echo counted : ℕ) (request : Request) (first second out : List ℕ) (r : OpenedParts) (out′ : List ℕ) {k : ℕ}
+    → OpenOnKeeps len command echo counted request first second out r out′ → encodedSays (r .answer) ≡ refused k
+    → (r .command ≡ command) × (r .echo ≡ echo) × (r .counted ≡ counted) × (out′ ≡ out)
+open-on-refused len command echo counted request first second out r out′ kept e =
     let line : List ℕ = replicate 257 0 in
-    let s = opened-same (stateIn line len command [] echo) out _ _ (kept line [] refl) e in
-    (same-command (r .command) command (ap (λ (x : State). x .command .awaited) (s .0)), ap (λ (x : State). x .command .size) (s .0), s .1)
-
-pub open-echo-on-refused : (len : ℕ) (command : CommandCode) (sent : List ℕ) (echo : ℕ) (request : Request) (first second out : List ℕ) (r : OpenedParts) (sent′ out′ : List ℕ) {k : ℕ}
-    → OpenEchoOnKeeps len command sent echo request first second out r sent′ out′ → encodedSays (r .answer) ≡ refused k
-    → (r .command ≡ command) × (sent′ ≡ sent) × (r .echo ≡ echo) × (out′ ≡ out)
-open-echo-on-refused len command sent echo request first second out r sent′ out′ kept e =
-    let line : List ℕ = replicate 257 0 in
-    let s = opened-same (stateIn line len command sent echo) out _ _ (kept line refl) e in (
+    let s = opened-same (stateIn line len command [] echo counted) out _ _ (kept line [] refl) e in (
       same-command (r .command) command (ap (λ (x : State). x .command .awaited) (s .0)),
-      ap (λ (x : State). x .command .sent) (s .0),
       ap (λ (x : State). x .command .size) (s .0),
+      ap (λ (x : State). x .command .counted) (s .0),
       s .1,
     )
 
--- ---- a new desk, and one that was reset, is idle, awaits no echo and holds nothing: the next byte starts a line
+pub open-echo-on-refused : (len : ℕ) (command : CommandCode) (sent : List ℕ) (echo counted : ℕ) (request : Request) (first second out : List ℕ) (r : OpenedParts) (sent′ out′ : List ℕ) {k : ℕ}
+    → OpenEchoOnKeeps len command sent echo counted request first second out r sent′ out′ → encodedSays (r .answer) ≡ refused k
+    → (r .command ≡ command) × (sent′ ≡ sent) × (r .echo ≡ echo) × (r .counted ≡ counted) × (out′ ≡ out)
+open-echo-on-refused len command sent echo counted request first second out r sent′ out′ kept e =
+    let line : List ℕ = replicate 257 0 in
+    let s = opened-same (stateIn line len command sent echo counted) out _ _ (kept line refl) e in (
+      same-command (r .command) command (ap (λ (x : State). x .command .awaited) (s .0)),
+      ap (λ (x : State). x .command .sent) (s .0),
+      ap (λ (x : State). x .command .size) (s .0),
+      ap (λ (x : State). x .command .counted) (s .0),
+      s .1,
+    )
 
-pub new-fresh : viewed newState ≡ fresh idle
-new-fresh = refl
+-- ---- a new desk, and one that was reset, is idle, awaits no echo and holds nothing: the next byte starts a line, and no line is counted
 
-pub reset-fresh : (s : State) → viewed (resetState s) ≡ fresh idle
-reset-fresh s = refl
+pub new-fresh : (viewed newState ≡ fresh idle) × (newState .command .counted ≡ 0)
+new-fresh = (refl, refl)
+
+pub reset-fresh : (s : State) → (viewed (resetState s) ≡ fresh idle) × (resetState s .command .counted ≡ 0)
+reset-fresh s = (refl, refl)
+
+-- ---- a feed with no event leaves the command and the count
+
+quiet-kept : (k : Kept) (n : ℕ) (o : Option Line) {m : ℕ} → read (heardOf n (eventOf (Option·map (judgeKept k) o))) ≡ read (quiet m) → commandOf k (Option·map (judgeKept k) o) ≡ k
+quiet-kept k n none e = refl
+quiet-kept k n (some l) e = never (cc)
+
+pub quiet-keeps : (s : State) (chunk text : List ℕ) (f : Fed) → f ≡ fed s chunk text → {m : ℕ} → f .answer ≡ read (quiet m) → f .state .command ≡ s .command
+unfolding fed
+quiet-keeps s chunk text f kept a =
+    let j = judged-feed judgeKept buffered chunk s in
+    let e = ap (λ (x : Fed). x .answer) (sym kept) ∙ a in
+    ap (λ (x : Fed). x .state .command) kept
+    ∙ ⊎-elim (λ (t : ltb (length text) 256 ≡ true). rw t)
+    (λ (t : ltb (length text) 256 ≡ false). let g = rw (t, j) at e in rw (t, j) (quiet-kept (s .command) _ (feed buffered (s .wire) chunk .tell) g))
+    (both (ltb (length text) 256))
 
 -- ---- a feed changes nothing in the bytes that are kept
 
@@ -117,11 +141,11 @@ fed-sent s chunk text = fed-command (λ k. k .sent ≡ s .command .sent) s chunk
 -- ---- the text buffer stays without an event, and at Overlong
 
 module _ (n : ℕ) (text : List ℕ) where
-  quiet-text : (o : Option Seen) {m : ℕ} → read (heardOf n o) ≡ read (quiet m) → textOf o text ≡ text
+  quiet-text : (o : Option (Numbered Seen)) {m : ℕ} → read (heardOf n o) ≡ read (quiet m) → textOf o text ≡ text
   quiet-text none e = refl
   quiet-text (some x) e = never (cc)
 
-  overlong-text : (k : Kept) (o : Option Line) {m size : ℕ} → read (heardOf n (eventOf (Option·map (judgeKept k) o))) ≡ read (event Overlong m size)
+  overlong-text : (k : Kept) (o : Option Line) {ordinal m size : ℕ} → read (heardOf n (eventOf (Option·map (judgeKept k) o))) ≡ read (event Overlong ordinal m size)
       → textOf (eventOf (Option·map (judgeKept k) o)) text ≡ text
   unfolding judgeKept judge
   overlong-text k none e = never (cc)
@@ -136,7 +160,7 @@ module _ (s : State) (chunk text : List ℕ) where
       (λ (f : ltb (length text) 256 ≡ false). let g = rw f at e in rw f (quiet-text (feed desk s chunk .taken) text (feed desk s chunk .tell) g))
       (both (ltb (length text) 256))
 
-  overlong-same : {m size : ℕ} → fed s chunk text .answer ≡ read (event Overlong m size) → fed s chunk text .text ≡ text
+  overlong-same : {ordinal m size : ℕ} → fed s chunk text .answer ≡ read (event Overlong ordinal m size) → fed s chunk text .text ≡ text
   unfolding fed
   overlong-same e =
       let j = judged-feed judgeKept buffered chunk s in
@@ -151,7 +175,7 @@ module _ (s : State) (chunk text : List ℕ) where
     pub quiet-stays : {m : ℕ} → f .answer ≡ read (quiet m) → f .text ≡ text
     quiet-stays e = ap (λ (x : Fed). x .text) kept ∙ quiet-same (ap (λ (x : Fed). x .answer) (sym kept) ∙ e)
 
-    pub overlong-stays : {m size : ℕ} → f .answer ≡ read (event Overlong m size) → f .text ≡ text
+    pub overlong-stays : {ordinal m size : ℕ} → f .answer ≡ read (event Overlong ordinal m size) → f .text ≡ text
     overlong-stays e = ap (λ (x : Fed). x .text) kept ∙ overlong-same (ap (λ (x : Fed). x .answer) (sym kept) ∙ e)
 
 -- ---- a prompt is a line at once

@@ -1,6 +1,6 @@
 -- The desk with its buffer and the command that it keeps, and its calls: what each answers, and what it leaves of the desk and of each lent buffer
--- (document 01, "The desk (added)" and "Refusal numbers", 8 to 10; document 02, CR 4).
-use Prim.Native.Nat.{ℕ, _+_}
+-- (document 01, "The desk (added)" and "Refusal numbers", 8 to 10; document 02, CR 4 and 7).
+use Prim.Native.Nat.{ℕ, suc, _+_}
 use mathlib.Core.Bool.{Bool, true, false, cond, _||_}
 use mathlib.Core.List.{List, [], _∷_, _++_}
 use mathlib.Core.Option.{Option, none, some}
@@ -12,6 +12,7 @@ use Rattle.at_command.specs.Request.{written}
 use Rattle.desk.specs.Cut.{View, dropping, held, bare, long, cutOne}
 use Rattle.trial.specs.Sort.{lineSort}
 use Rattle.desk.specs.Machine.{Machine, Stop, after, feed, Ruled, Judging, judged}
+use Rattle.desk.specs.Ordinal.{capped, Numbered, numbered}
 use Rattle.desk.specs.Lines.{Line, lineOf}
 use Rattle.desk.specs.Judge.{Event, Seen, Command, idle, isOpen, judge}
 use Rattle.desk.specs.Rules.{Plain}
@@ -44,12 +45,13 @@ buffered t b = record { state = layOne t b; tell = lineOf (cutOne (viewOf t) b .
 
 -- ---- the command, as the desk keeps it
 
--- Bytes, 210 of them in every desk, since no command is longer, of which so many at the front are the echo that is awaited; and the answers awaited. No echo is awaited where the size is 0,
--- or more than the bytes are.
+-- Bytes, 210 of them in every desk, since no command is longer, of which so many at the front are the echo that is awaited; the answers awaited; and the lines counted
+-- since the last accepted open or reset. No echo is awaited where the size is 0, or more than the bytes are.
 pub record Kept : Type 0 where
   pub sent : List ℕ
   pub size : ℕ
   pub awaited : List Kind
+  pub counted : ℕ
 
 abbrev pub echoIn : List ℕ → ℕ → Option (List ℕ)
 echoIn sent size = cond (eqb size 0) none (cond (ltb (length sent) size) none (some (take size sent)))
@@ -57,7 +59,7 @@ echoIn sent size = cond (eqb size 0) none (cond (ltb (length sent) size) none (s
 abbrev pub commandKept : Kept → Command
 commandKept k = record { echo = echoIn (k .sent) (k .size); awaited = k .awaited }
 
--- a command is kept in place of another: an echo that it awaits fills the front of the bytes, nothing else in them changes
+-- a command is kept in place of another: an echo that it awaits fills the front of the bytes, nothing else in them changes, and lines are counted anew
 abbrev pub sentIn : Option (List ℕ) → List ℕ → List ℕ
 sentIn none old = old
 sentIn (some sent) old = sent ++ drop (length sent) old
@@ -67,7 +69,7 @@ sizeIn none = 0
 sizeIn (some sent) = length sent
 
 abbrev pub keep : Command → Kept → Kept
-keep c k = record { sent = sentIn (c .echo) (k .sent); size = sizeIn (c .echo); awaited = c .awaited }
+keep c k = record { sent = sentIn (c .echo) (k .sent); size = sizeIn (c .echo); awaited = c .awaited; counted = 0 }
 
 -- ---- the desk
 
@@ -79,42 +81,45 @@ State = Judging Tray Kept
 abbrev pub viewed : State → Plain
 viewed s = record { wire = viewOf (s .wire); command = commandKept (s .command) }
 
--- a line is judged by the command that is kept; the bytes stay, and what is awaited after it is kept
-unfoldable pub judgeKept : Kept → Line → Ruled Kept Seen
+-- a line is judged by the command that is kept, and counted; the bytes stay, and what is awaited after it is kept
+unfoldable pub judgeKept : Kept → Line → Ruled Kept (Numbered Seen)
 judgeKept k l =
     let r = judge lineSort (commandKept k) l in
-    record { command = record { sent = k .sent; size = sizeIn (r .command .echo); awaited = r .command .awaited }; event = r .event }
+    record {
+      command = record { sent = k .sent; size = sizeIn (r .command .echo); awaited = r .command .awaited; counted = capped (suc (k .counted)) };
+      event = numbered (k .counted) (r .event);
+    }
 
-abbrev pub desk : Machine State Seen
+abbrev pub desk : Machine State (Numbered Seen)
 desk = judged judgeKept buffered
 
 -- the desk after all these bytes, however they are fed
 abbrev pub afterBytes : State → List ℕ → State
 afterBytes s bytes = after desk s bytes
 
--- a new desk is idle and holds nothing
+-- a new desk is idle and holds nothing, and no line is counted
 abbrev pub newState : State
-newState = record { wire = record { bytes = replicate 257 0; len = 0 }; command = record { sent = replicate 210 0; size = 0; awaited = [] } }
+newState = record { wire = record { bytes = replicate 257 0; len = 0 }; command = record { sent = replicate 210 0; size = 0; awaited = []; counted = 0 } }
 
--- reset closes the command, awaits no echo and forgets an unfinished line
+-- reset closes the command, awaits no echo, forgets an unfinished line and counts lines anew
 abbrev pub resetState : State → State
 resetState s = record { wire = record { bytes = s .wire .bytes; len = 0 }; command = keep idle (s .command) }
 
 -- ---- feed
 
--- what a feed tells: how many bytes it took and, where an event came, the event and the size of its line
+-- what a feed tells: how many bytes it took and, where an event came, the event, its line's ordinal, the bytes taken and the line's size
 pub data Heard : Type 0 where
   quiet : ℕ → Heard
-  event : Event → ℕ → ℕ → Heard
+  event : Event → ℕ → ℕ → ℕ → Heard
 
-abbrev pub heardOf : ℕ → Option Seen → Heard
+abbrev pub heardOf : ℕ → Option (Numbered Seen) → Heard
 heardOf n none = quiet n
-heardOf n (some x) = event (x .event) n (length (x .line))
+heardOf n (some x) = event (x .tell .event) (x .ordinal) n (length (x .tell .line))
 
 -- the line fills the front of the text buffer
-abbrev pub textOf : Option Seen → List ℕ → List ℕ
+abbrev pub textOf : Option (Numbered Seen) → List ℕ → List ℕ
 textOf none text = text
-textOf (some x) text = x .line ++ drop (length (x .line)) text
+textOf (some x) text = x .tell .line ++ drop (length (x .tell .line)) text
 
 pub record Fed : Type 0 where
   pub state : State
@@ -122,7 +127,7 @@ pub record Fed : Type 0 where
   pub text : List ℕ
 
 -- the chunk is taken through the first byte that yields an event, or whole
-abbrev pub heard : Stop State Seen → List ℕ → Fed
+abbrev pub heard : Stop State (Numbered Seen) → List ℕ → Fed
 heard f text = record { state = f .state; answer = read (heardOf (f .taken) (f .tell)); text = textOf (f .tell) text }
 
 -- 10 with a text buffer under 256 bytes

@@ -36,8 +36,8 @@ abbrev pub FeedLentKeeps : Desk → List ℕ → List ℕ → Desk → FedAnswer
 FeedLentKeeps d chunk text d′ r text′ = fedLentSays d′ r text′ ≡ fed (stateOf d) chunk text
 
 -- a feed is lent the kept bytes to read: they are after it what they were
-abbrev pub FeedOnKeeps : List ℕ → ℕ → CommandCode → List ℕ → ℕ → List ℕ → List ℕ → FedParts → List ℕ → List ℕ → Type 0
-FeedOnKeeps line len command sent echo chunk text r line′ text′ = partsSays r line′ sent text′ ≡ fed (stateIn line len command sent echo) chunk text
+abbrev pub FeedOnKeeps : List ℕ → ℕ → CommandCode → List ℕ → ℕ → ℕ → List ℕ → List ℕ → FedParts → List ℕ → List ℕ → Type 0
+FeedOnKeeps line len command sent echo counted chunk text r line′ text′ = partsSays r line′ sent text′ ≡ fed (stateIn line len command sent echo counted) chunk text
 
 -- ---- open, likewise, in both modes
 
@@ -56,12 +56,12 @@ abbrev pub OpenLentKeeps : Mode → Desk → Request → List ℕ → List ℕ �
 OpenLentKeeps mode d request first second out d′ r out′ = openedLentSays d′ r out′ ≡ openedBy mode (stateOf d) request first second out
 
 -- no open looks at the line's bytes, and the plain one not at the kept command's: it holds whatever they are
-abbrev pub OpenOnKeeps : ℕ → CommandCode → ℕ → Request → List ℕ → List ℕ → List ℕ → OpenedParts → List ℕ → Type 0
-OpenOnKeeps len command echo request first second out r out′ =
+abbrev pub OpenOnKeeps : ℕ → CommandCode → ℕ → ℕ → Request → List ℕ → List ℕ → List ℕ → OpenedParts → List ℕ → Type 0
+OpenOnKeeps len command echo counted request first second out r out′ =
     (line sent : List ℕ) → length line ≡ 257
-    → openedPartsSays r line len sent out′ ≡ openedBy plainMode (stateIn line len command sent echo) request first second out
+    → openedPartsSays r line len sent out′ ≡ openedBy plainMode (stateIn line len command sent echo counted) request first second out
 
-abbrev pub OpenEchoOnKeeps : ℕ → CommandCode → List ℕ → ℕ → Request → List ℕ → List ℕ → List ℕ → OpenedParts → List ℕ → List ℕ → Type 0
-OpenEchoOnKeeps len command sent echo request first second out r sent′ out′ =
+abbrev pub OpenEchoOnKeeps : ℕ → CommandCode → List ℕ → ℕ → ℕ → Request → List ℕ → List ℕ → List ℕ → OpenedParts → List ℕ → List ℕ → Type 0
+OpenEchoOnKeeps len command sent echo counted request first second out r sent′ out′ =
     (line : List ℕ) → length line ≡ 257
-    → openedPartsSays r line len sent′ out′ ≡ openedBy echoMode (stateIn line len command sent echo) request first second out
+    → openedPartsSays r line len sent′ out′ ≡ openedBy echoMode (stateIn line len command sent echo counted) request first second out

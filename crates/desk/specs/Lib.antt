@@ -1,4 +1,5 @@
 pub mod Machine
+pub mod Ordinal
 pub mod Cut
 pub mod Lines
 pub mod Judge
@@ -11,4 +12,5 @@ pub mod Keeps
 pub mod ManualOperator
 pub mod Slips
 pub mod Demand
+pub mod Traced
 pub mod Calls

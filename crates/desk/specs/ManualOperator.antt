@@ -16,6 +16,6 @@ use Rattle.desk.specs.declared.open.OpenedParts.{OpenedParts}
 pub record OperatorsOpened (plmn second out out′ : List ℕ) : Type 0 where
   pub value : (mode : Mode) (d : Desk) (r : Opened) → OpenKeeps mode d SetManualOperator plmn second out r out′ → OperatorAnswer plmn (encodedSays (r .answer)) out′
   pub lent : (mode : Mode) (d d′ : Desk) (r : Encoded) → OpenLentKeeps mode d SetManualOperator plmn second out d′ r out′ → OperatorAnswer plmn (encodedSays r) out′
-  pub parts : (len : ℕ) (command : Command) (echo : ℕ) (r : OpenedParts) → OpenOnKeeps len command echo SetManualOperator plmn second out r out′ → OperatorAnswer plmn (encodedSays (r .answer)) out′
-  pub echoParts : (len : ℕ) (command : Command) (sent : List ℕ) (echo : ℕ) (r : OpenedParts) (sent′ : List ℕ)
-      → OpenEchoOnKeeps len command sent echo SetManualOperator plmn second out r sent′ out′ → OperatorAnswer plmn (encodedSays (r .answer)) out′
+  pub parts : (len : ℕ) (command : Command) (echo counted : ℕ) (r : OpenedParts) → OpenOnKeeps len command echo counted SetManualOperator plmn second out r out′ → OperatorAnswer plmn (encodedSays (r .answer)) out′
+  pub echoParts : (len : ℕ) (command : Command) (sent : List ℕ) (echo counted : ℕ) (r : OpenedParts) (sent′ : List ℕ)
+      → OpenEchoOnKeeps len command sent echo counted SetManualOperator plmn second out r sent′ out′ → OperatorAnswer plmn (encodedSays (r .answer)) out′

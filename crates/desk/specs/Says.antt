@@ -61,34 +61,34 @@ sizeOf P.Blank = 0
 sizeOf P.Overlong = 0
 sizeOf (P.Line n) = n
 
--- the command that is kept: the bytes of its echo, their size, and the answers
-abbrev pub keptSays : List ℕ → ℕ → Command → Kept
-keptSays sent echo command = record { sent = sent; size = echo; awaited = commandSays command .awaited }
+-- the command that is kept: the bytes of its echo, their size, the answers, and the lines counted
+abbrev pub keptSays : List ℕ → ℕ → Command → ℕ → Kept
+keptSays sent echo command counted = record { sent = sent; size = echo; awaited = commandSays command .awaited; counted = counted }
 
 -- the desk, whole and in its parts
-abbrev pub stateIn : List ℕ → ℕ → Command → List ℕ → ℕ → State
-stateIn bytes len command sent echo = record { wire = record { bytes = bytes; len = len }; command = keptSays sent echo command }
+abbrev pub stateIn : List ℕ → ℕ → Command → List ℕ → ℕ → ℕ → State
+stateIn bytes len command sent echo counted = record { wire = record { bytes = bytes; len = len }; command = keptSays sent echo command counted }
 
 abbrev pub stateOf : Desk → State
-stateOf d = stateIn (d .cutter .line) (d .cutter .len) (d .command) (d .sent) (d .echo)
+stateOf d = stateIn (d .cutter .line) (d .cutter .len) (d .command) (d .sent) (d .echo) (d .counted)
 
 abbrev pub answerSays : FedAnswer → Reading Heard
 answerSays (F.Refused k) = refused k
 answerSays (F.Quiet n) = read (quiet n)
-answerSays (F.Heard e n size) = read (event (eventSays e) n size)
+answerSays (F.Heard e ordinal n size) = read (event (eventSays e) ordinal n size)
 
 -- an answer, with the lent buffers as they are after the call
 abbrev pub fedSays : FedCode → List ℕ → Fed
 fedSays r text = record { state = stateOf (r .desk); answer = answerSays (r .answer); text = text }
 
 abbrev pub partsSays : FedParts → List ℕ → List ℕ → List ℕ → Fed
-partsSays r bytes sent text = record { state = stateIn bytes (r .len) (r .command) sent (r .echo); answer = answerSays (r .answer); text = text }
+partsSays r bytes sent text = record { state = stateIn bytes (r .len) (r .command) sent (r .echo) (r .counted); answer = answerSays (r .answer); text = text }
 
 abbrev pub openedSays : OpenedCode → List ℕ → Opened
 openedSays r out = record { state = stateOf (r .desk); answer = encodedSays (r .answer); out = out }
 
 abbrev pub openedPartsSays : OpenedParts → List ℕ → ℕ → List ℕ → List ℕ → Opened
-openedPartsSays r bytes len sent out = record { state = stateIn bytes len (r .command) sent (r .echo); answer = encodedSays (r .answer); out = out }
+openedPartsSays r bytes len sent out = record { state = stateIn bytes len (r .command) sent (r .echo) (r .counted); answer = encodedSays (r .answer); out = out }
 
 -- a call on a lent desk says what the call by value says, with the desk that stands behind the reference after it for the one handed back
 abbrev pub fedLentSays : Desk → FedAnswer → List ℕ → Fed

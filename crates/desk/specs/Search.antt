@@ -8,6 +8,7 @@ use lib.ListN.{length, drop, getD}
 use Rattle.text.specs.Reading.{Reading, read}
 use Rattle.desk.specs.Cut.{Piece, nothing, blank, overlong, line, bare, long as tooLong, cutOne}
 use Rattle.desk.specs.Machine.{Stop, feed, commandOf, eventOf}
+use Rattle.desk.specs.Ordinal.{numbered}
 use Rattle.desk.specs.Lines.{Line}
 use Rattle.desk.specs.Lines as L
 use Rattle.desk.specs.Judge.{Event}
@@ -61,7 +62,7 @@ pub record Past (len b : ℕ) (r : Bool) : Type 0 where
 
 -- what a line is, and the command that is kept after it
 abbrev pub Judges : Kept → List ℕ → Kept → Event → Type 0
-Judges k l k′ e = record { command = k′; event = record { event = e; line = l } } ≡ judgeKept k (L.line l)
+Judges k l k′ e = record { command = k′; event = numbered (k .counted) (record { event = e; line = l }) } ≡ judgeKept k (L.line l)
 
 -- what a feed makes of what the search told, n bytes having been taken: the command, the answer, and the text buffer
 pub record Tells (k : Kept) (told : Option Line) (n : ℕ) (text : List ℕ) (k′ : Kept) (answer : Reading Heard) (text′ : List ℕ) : Type 0 where

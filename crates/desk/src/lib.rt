@@ -11,6 +11,7 @@ mod feed;
 mod judge;
 mod lent;
 mod open;
+mod ordinal;
 mod reset;
 
 pub use command::Command;
@@ -25,12 +26,13 @@ pub use open::open_echo_on;
 pub use open::open_on;
 
 // The line that is coming, the answers that the open command awaits, and what was sent: sent[..echo] is the echo that comes first. None does where echo is 0, or
-// above 210, which no command is longer than.
+// above 210, which no command is longer than. Last, the lines counted since the last accepted open or reset.
 pub struct Desk {
     pub cutter: Cutter,
     pub command: Command,
     pub sent: [u8; 210],
     pub echo: usize,
+    pub counted: u32,
 }
 
 // What a line, or the end of one past its length, tells.
@@ -89,6 +91,7 @@ impl Desk {
             command: Command::Idle,
             sent: sent,
             echo: 0,
+            counted: 0,
         }
     }
 }

@@ -19,6 +19,7 @@ pub struct Opened {
 pub struct OpenedParts {
     pub command: Command,
     pub echo: usize,
+    pub counted: u32,
     pub answer: Encoded,
 }
 
@@ -27,17 +28,19 @@ pub fn open_on(
     len: usize,
     command: Command,
     echo: usize,
+    counted: u32,
     request: Request,
     first: &[u8],
     second: &[u8],
     out: &mut [u8],
 ) -> OpenedParts
-    ensures { λ r. ⌜ OpenOnKeeps len command echo request (now (first .entry)) (now (second .entry)) (now (out .entry)) r (now (out .exit)) ⌝ }
+    ensures { λ r. ⌜ OpenOnKeeps len command echo counted request (now (first .entry)) (now (second .entry)) (now (out .entry)) r (now (out .exit)) ⌝ }
 {
     if command::is_open(command) {
         return OpenedParts {
             command: command,
             echo: echo,
+            counted: counted,
             answer: Encoded::Refused(8),
         };
     }
@@ -45,6 +48,7 @@ pub fn open_on(
         return OpenedParts {
             command: command,
             echo: echo,
+            counted: counted,
             answer: Encoded::Refused(9),
         };
     }
@@ -53,6 +57,7 @@ pub fn open_on(
         Encoded::Refused(k) => OpenedParts {
             command: command,
             echo: echo,
+            counted: counted,
             answer: Encoded::Refused(k),
         },
         Encoded::Size(n) => {
@@ -61,6 +66,7 @@ pub fn open_on(
             OpenedParts {
                 command: opened,
                 echo: 0,
+                counted: 0,
                 answer: Encoded::Size(n),
             }
         }
@@ -73,20 +79,22 @@ pub fn open_echo_on(
     command: Command,
     sent: &mut [u8; 210],
     echo: usize,
+    counted: u32,
     request: Request,
     first: &[u8],
     second: &[u8],
     out: &mut [u8],
 ) -> OpenedParts
-    ensures { λ r. ⌜ OpenEchoOnKeeps len command (now (sent .entry)) echo request (now (first .entry)) (now (second .entry)) (now (out .entry)) r (now (sent .exit)) (now (out .exit)) ⌝ }
+    ensures { λ r. ⌜ OpenEchoOnKeeps len command (now (sent .entry)) echo counted request (now (first .entry)) (now (second .entry)) (now (out .entry)) r (now (sent .exit)) (now (out .exit)) ⌝ }
 {
-    let opened = open_on(len, command, echo, request, first, second, out);
+    let opened = open_on(len, command, echo, counted, request, first, second, out);
     let after = opened.command;
     let answer = opened.answer;
     match answer {
         Encoded::Refused(k) => OpenedParts {
             command: after,
             echo: opened.echo,
+            counted: opened.counted,
             answer: Encoded::Refused(k),
         },
         Encoded::Size(n) => {
@@ -94,6 +102,7 @@ pub fn open_echo_on(
             OpenedParts {
                 command: after,
                 echo: n,
+                counted: opened.counted,
                 answer: Encoded::Size(n),
             }
         }
@@ -107,7 +116,16 @@ impl Desk {
         let cutter = self.cutter;
         let command = self.command;
         let sent = self.sent;
-        let parts = open_on(cutter.len, command, self.echo, request, first, second, out);
+        let parts = open_on(
+            cutter.len,
+            command,
+            self.echo,
+            self.counted,
+            request,
+            first,
+            second,
+            out,
+        );
         let after = parts.command;
         let answer = parts.answer;
         Opened {
@@ -116,6 +134,7 @@ impl Desk {
                 command: after,
                 sent: sent,
                 echo: parts.echo,
+                counted: parts.counted,
             },
             answer: answer,
         }
@@ -133,6 +152,7 @@ impl Desk {
             command,
             &mut sent,
             self.echo,
+            self.counted,
             request,
             first,
             second,
@@ -146,6 +166,7 @@ impl Desk {
                 command: after,
                 sent: sent,
                 echo: parts.echo,
+                counted: parts.counted,
             },
             answer: answer,
         }

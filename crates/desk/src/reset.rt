@@ -1,4 +1,4 @@
-// The desk set back: the command is closed, no echo is awaited, and an unfinished line is forgotten.
+// The desk set back: the command is closed, no echo is awaited, an unfinished line is forgotten, and lines are counted anew.
 use crate::Desk;
 use crate::command::Command;
 use crate::cutter::Cutter;
@@ -16,6 +16,7 @@ impl Desk {
             command: Command::Idle,
             sent: sent,
             echo: 0,
+            counted: 0,
         }
     }
 }

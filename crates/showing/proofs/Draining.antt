@@ -6,6 +6,7 @@ use native.Mathlib.Omega.{arith}
 use lib.ListN.{length, drop, length-drop, drop-of-length-le}
 use lib.Seq.{drop-drop}
 use Rattle.desk.specs.Machine.{Stop, after, feed}
+use Rattle.desk.specs.Ordinal.{Numbered}
 use Rattle.desk.specs.Judge.{Seen}
 use Rattle.desk.specs.Desk.{State, desk, afterBytes, Fed}
 use Rattle.desk.specs.Says.{answerSays, stateOf, fedLentSays}
@@ -31,7 +32,7 @@ module _ (chunk : List ℕ) (at : ℕ) (all : State) where
     is-feed = kept-feed (stateOf d) rest text (fedLentSays d′ r text′) kept (ap (λ (f : Fed). accepts (f .answer)) kept ∙ fed-accepts (stateOf d) rest text (omega arith))
 
     taken-is : feed desk (stateOf d) rest .taken ≡ takenBy (answerSays r)
-    taken-is = ap (λ (f : Stop State Seen). f .taken) is-feed
+    taken-is = ap (λ (f : Stop State (Numbered Seen)). f .taken) is-feed
 
     left-is : length rest ≡ length (drop at chunk)
     left-is = ap length is
@@ -46,7 +47,7 @@ module _ (chunk : List ℕ) (at : ℕ) (all : State) where
     turn-on inv =
         ap (afterBytes (stateOf d′)) (sym (drop-drop (takenBy (answerSays r)) at chunk))
         ∙ ap (λ (l : List ℕ). afterBytes (stateOf d′) (drop (takenBy (answerSays r)) l)) (sym is)
-        ∙ ap (λ (s : State). afterBytes s (drop (takenBy (answerSays r)) rest)) (ap (λ (f : Stop State Seen). f .state) (sym is-feed))
+        ∙ ap (λ (s : State). afterBytes s (drop (takenBy (answerSays r)) rest)) (ap (λ (f : Stop State (Numbered Seen)). f .state) (sym is-feed))
         ∙ ap (λ (k : ℕ). afterBytes (feed desk (stateOf d) rest .state) (drop k rest)) (sym taken-is)
         ∙ feed-rest desk (stateOf d) rest
         ∙ ap (afterBytes (stateOf d)) is

@@ -1,4 +1,4 @@
-// What the show programs do: standard input goes to a desk with AT+CSQ open, in one mode or the other, and each event is printed with its line.
+// What the show programs do: standard input goes to a desk with AT+CSQ open, in one mode or the other, and each event is printed with its line and the line's number.
 use at_command::Encoded;
 use at_command::Request;
 use console::output;
@@ -28,26 +28,49 @@ fn print(word: &[u8], rest: &[u8]) {
     output::flush(&out, e);
 }
 
-fn print_stray(number: u8, line: &[u8]) {
+// An event's word and the ordinal of its line.
+fn put_head(out: &mut [u8], word: &[u8], ordinal: u32) -> usize {
+    let a = output::put(out, 0, word);
+    output::put_decimal(out, a, ordinal as u64)
+}
+
+fn print_event(word: &[u8], ordinal: u32, line: &[u8]) {
     let mut out = [0u8; 512];
-    let a = output::put(&mut out, 0, b"stray ");
-    let b = output::put_decimal(&mut out, a, number as u64);
-    let c = output::put(&mut out, b, b" ");
-    let d = output::put(&mut out, c, line);
-    let e = output::put(&mut out, d, b"\n");
+    let a = put_head(&mut out, word, ordinal);
+    let b = output::put(&mut out, a, b" ");
+    let c = output::put(&mut out, b, line);
+    let e = output::put(&mut out, c, b"\n");
     output::flush(&out, e);
 }
 
-fn say(event: Event, line: &[u8]) {
+fn print_overlong(ordinal: u32) {
+    let mut out = [0u8; 512];
+    let a = put_head(&mut out, b"overlong ", ordinal);
+    let e = output::put(&mut out, a, b"\n");
+    output::flush(&out, e);
+}
+
+fn print_stray(ordinal: u32, number: u8, line: &[u8]) {
+    let mut out = [0u8; 512];
+    let a = put_head(&mut out, b"stray ", ordinal);
+    let b = output::put(&mut out, a, b" ");
+    let c = output::put_decimal(&mut out, b, number as u64);
+    let d = output::put(&mut out, c, b" ");
+    let f = output::put(&mut out, d, line);
+    let e = output::put(&mut out, f, b"\n");
+    output::flush(&out, e);
+}
+
+fn say(event: Event, ordinal: u32, line: &[u8]) {
     match event {
-        Event::Overlong => print(b"overlong", b""),
-        Event::Stray(number) => print_stray(number, line),
-        Event::Failed => print(b"failed ", line),
-        Event::Taken => print(b"taken ", line),
-        Event::Done => print(b"done ", line),
-        Event::Short => print(b"short ", line),
-        Event::Unsolicited => print(b"unsolicited ", line),
-        Event::Echo => print(b"echo ", line),
+        Event::Overlong => print_overlong(ordinal),
+        Event::Stray(number) => print_stray(ordinal, number, line),
+        Event::Failed => print_event(b"failed ", ordinal, line),
+        Event::Taken => print_event(b"taken ", ordinal, line),
+        Event::Done => print_event(b"done ", ordinal, line),
+        Event::Short => print_event(b"short ", ordinal, line),
+        Event::Unsolicited => print_event(b"unsolicited ", ordinal, line),
+        Event::Echo => print_event(b"echo ", ordinal, line),
     }
 }
 
@@ -59,8 +82,13 @@ fn told(answer: FedAnswer, text: &[u8]) -> usize
         // never: text has room for every line
         FedAnswer::Refused(_) => 0,
         FedAnswer::Quiet(taken) => taken,
-        FedAnswer::Heard { event, taken, size } => {
-            say(event, part::part(text, 0, size));
+        FedAnswer::Heard {
+            event,
+            ordinal,
+            taken,
+            size,
+        } => {
+            say(event, ordinal, part::part(text, 0, size));
             taken
         }
     }

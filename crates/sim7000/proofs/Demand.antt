@@ -1,6 +1,6 @@
 -- Demand 3 holds of sessions with exported calls, in both modes: an exported call that keeps its contract is the desk's own on the desk that the lent parts are.
 use Prim.Native.Nat.{ℕ}
-use mathlib.Core.Path.{_≡_, refl, sym, ap, _∙_}
+use mathlib.Core.Path.{_≡_, refl, sym, ap, subst, _∙_}
 use mathlib.Core.List.{List}
 use mathlib.Core.Option.{some}
 use native.Mathlib.Omega.{arith}
@@ -13,13 +13,14 @@ use Rattle.at_command.specs.Request.{Asked, textsOf, refusalOf, commandOf, fitt
 use Rattle.desk.specs.Machine.{feed}
 use Rattle.desk.specs.Judge as J
 use Rattle.desk.specs.Judge.{Command}
-use Rattle.desk.specs.Rules.{fresh, Mode, plainMode, echoMode, commandFor}
-use Rattle.desk.specs.Desk.{keep, State, viewed, desk, Heard, quiet, event, Fed, fed, Opened}
+use Rattle.desk.specs.Rules.{Mode, plainMode, echoMode, commandFor}
+use Rattle.desk.specs.Desk.{keep, State, desk, Heard, quiet, event, Fed, fed, Opened}
 use Rattle.desk.specs.Demand.{Turn, accepts, takenBy, seenBy, Demand3, Demand3-slipped, Demand3-early}
-use Rattle.desk.proofs.Commands.{Apart, command-few}
+use Rattle.desk.proofs.Commands.{command-few}
+use Rattle.desk.proofs.Numbering.{capped-few}
 use Rattle.desk.proofs.Opening.{open-accepted, open-yields}
 use Rattle.desk.proofs.Unchanged.{fed-stays}
-use Rattle.desk.proofs.Demand.{Sound, desk-sound, kept-feed, opened-for, same-bytes, with-slips, with-early}
+use Rattle.desk.proofs.Demand.{Begins, Sound, desk-sound, kept-feed, opened-for, same-bytes, with-slips, with-early}
 use Rattle.sim7000.specs.Parts.{deskIn, numbersOf, toldOf, FeedLeft, feeds, ExportFeedKeeps}
 use Rattle.sim7000.specs.Command.{askedBy, OpenLeft, openLeft, openedOn, opens}
 use Rattle.sim7000.specs.Calls.{seenIn, ExportOpens, ExportFeeds}
@@ -31,18 +32,18 @@ use Rattle.sim7000.proofs.Desks.{state-back, fed-back}
 -- what is told is read as the answer
 told-taken : (h : Heard) → takenBy (read h) ≡ getD (toldOf h) 1 0
 told-taken (quiet n) = refl
-told-taken (event e n size) = refl
+told-taken (event e ordinal n size) = refl
 
 told-seen : (h : Heard) (text : List ℕ) → seenBy (read h) text ≡ seenIn (toldOf h) text
 told-seen (quiet n) text = refl
-told-seen (event J.Unsolicited n size) text = refl
-told-seen (event J.Taken n size) text = refl
-told-seen (event J.Done n size) text = refl
-told-seen (event J.Short n size) text = refl
-told-seen (event J.Failed n size) text = refl
-told-seen (event (J.Stray k) n size) text = refl
-told-seen (event J.Overlong n size) text = refl
-told-seen (event J.Echo n size) text = refl
+told-seen (event J.Unsolicited ordinal n size) text = refl
+told-seen (event J.Taken ordinal n size) text = refl
+told-seen (event J.Done ordinal n size) text = refl
+told-seen (event J.Short ordinal n size) text = refl
+told-seen (event J.Failed ordinal n size) text = refl
+told-seen (event (J.Stray k) ordinal n size) text = refl
+told-seen (event J.Overlong ordinal n size) text = refl
+told-seen (event J.Echo ordinal n size) text = refl
 
 -- a feed is refused with 10 alone
 fed-ten : (s : State) (chunk text : List ℕ) {k : ℕ} → fed s chunk text .answer ≡ refused k → k ≡ 10
@@ -135,19 +136,18 @@ module _ (mode : Mode) (line state sent : List ℕ) (request number code : ℕ) 
           record {
             answers = e ∙ ap (λ (x : OpenLeft). read (x .size)) (sym left);
             outs = ap (λ (x : OpenLeft). x .out) left;
-            back = rw (states, sents, made .each (commandFor mode a)) (state-back (record { wire = s .wire; command = keep (commandFor mode a) (s .command) }) (command-few mode a));
+            back = rw (states, sents, made .each (commandFor mode a)) (state-back (record { wire = s .wire; command = keep (commandFor mode a) (s .command) }) (command-few mode a) (capped-few 0 (omega arith)));
           }
 
   exported-open : (r : ℕ) (state′ sent′ out′ : List ℕ) (size′ : ℕ) → openLeft r state′ sent′ out′ size′ ≡ opens mode (askedBy request number code first second) line state sent out size → r ≡ 0
-      → (viewed (deskIn line state′ sent′) ≡ fresh (commandFor mode a)) × Apart (commandFor mode a .echo)
+      → Begins (commandFor mode a) (deskIn line state′ sent′)
   exported-open r state′ sent′ out′ size′ kept fine =
       let o = read-back r state′ sent′ out′ size′ kept fine in
-      let f = opened-for mode a (deskIn line state sent) out (encodeReading a (length out)) Begun refl (ap accepts (o .answers)) in
-      (ap viewed (o .back) ∙ f .0, f .1)
+      subst (Begins (commandFor mode a)) (sym (o .back)) (opened-for mode a (deskIn line state sent) out (encodeReading a (length out)) Begun refl (ap accepts (o .answers)))
 
 -- ---- demand 3
 
-export-opens : (s s′ : State) (c : Command) → ExportOpens s c s′ → (viewed s′ ≡ fresh c) × Apart (c .echo)
+export-opens : (s s′ : State) (c : Command) → ExportOpens s c s′ → Begins c s′
 export-opens s s′ c (By.own o) = desk-sound .opens s s′ c o
 export-opens s s′ c (By.exported line state sent request number code first second out size r state′ out′ size′ a full asks kept fine) =
     exported-open plainMode line state sent request number code first second out size a asks r state′ sent out′ size′ (kept line sent full) fine

@@ -8,8 +8,12 @@ use lib.Dec.{ltb, eqb}
 use lib.ListN.{length, getD}
 use Rattle.at_command.specs.Kind.{Kind, genericOk, simError, writePrompt, closeOk, iccid, signalQuality, systemInfo, operatorInfo, networkTime, downloadInfo, imei, smsMessageFormat, smsMessage, placeOf, kindAt}
 use Rattle.at_command.proofs.KindPlaces.{at-place}
+use Rattle.text.specs.Copy.{least}
 use Rattle.desk.specs.Judge.{Command}
-use Rattle.desk.specs.Desk.{State, resetState, fed}
+use Rattle.desk.specs.Ordinal.{capped}
+use Rattle.desk.specs.Desk.{Kept, State, judgeKept, resetState, fed}
+use Rattle.desk.proofs.Numbering.{capped-again}
+use Rattle.desk.proofs.Feeding.{fed-command}
 use Rattle.desk.proofs.Lives.{fed-few}
 use Rattle.desk.proofs.Unchanged.{fed-sent}
 use Rattle.sim7000.specs.Parts.{awaitedIn, numberOf, deskIn, numbersOf, resets}
@@ -17,7 +21,7 @@ use Rattle.sim7000.proofs.Commands.{place-few, awaited-two}
 
 -- a reset of the numbers is a reset of the desk
 pub reset-says : (line state sent : List ℕ) → deskIn line (resets state) sent ≡ resetState (deskIn line state sent)
-unfolding awaitedIn
+unfolding awaitedIn capped least
 reset-says line state sent = refl
 
 -- ---- the number of at most two answers is read back
@@ -54,9 +58,12 @@ number-back (a ∷ []) h = one-back a
 number-back (a ∷ b ∷ []) h = two-back a b
 number-back (a ∷ b ∷ k ∷ ks) h = absurd (omega arith)
 
-pub state-back : (s : State) → length (s .command .awaited) ≤ 2 → deskIn (s .wire .bytes) (numbersOf s) (s .command .sent) ≡ s
-state-back s h =
-    ap (λ (ks : List Kind). record { wire = s .wire; command = record { sent = s .command .sent; size = s .command .size; awaited = ks } }) (number-back (s .command .awaited) h)
+-- a count that is no greater than the greatest ordinal is read as it is
+abbrev Countable : Kept → Type 0
+Countable k = capped (k .counted) ≡ k .counted
+
+pub state-back : (s : State) → length (s .command .awaited) ≤ 2 → Countable (s .command) → deskIn (s .wire .bytes) (numbersOf s) (s .command .sent) ≡ s
+state-back s h n = rw (number-back (s .command .awaited) h, n)
 
 in-few : (n : ℕ) → length (awaitedIn n) ≤ 2
 unfolding awaitedIn
@@ -74,8 +81,12 @@ module _ (line state sent chunk text : List ℕ) where
       let g = in-few (getD state 1 0) in
       omega arith
 
+  fed-countable : Countable (fed (deskIn line state sent) chunk text .state .command)
+  unfolding judgeKept
+  fed-countable = fed-command Countable (deskIn line state sent) chunk text (capped-again (getD state 3 0)) (λ l. capped-again _)
+
   -- the numbers that a feed leaves are read back, beside what was sent, which it leaves
   pub fed-back : let s = fed (deskIn line state sent) chunk text .state in deskIn (s .wire .bytes) (numbersOf s) sent ≡ s
   fed-back =
       let s = fed (deskIn line state sent) chunk text .state in
-      ap (deskIn (s .wire .bytes) (numbersOf s)) (sym (fed-sent (deskIn line state sent) chunk text)) ∙ state-back s fed-two
+      ap (deskIn (s .wire .bytes) (numbersOf s)) (sym (fed-sent (deskIn line state sent) chunk text)) ∙ state-back s fed-two fed-countable

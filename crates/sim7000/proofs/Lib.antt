@@ -6,6 +6,8 @@ pub mod Asking
 pub mod One
 pub mod Desks
 pub mod Demand
+pub mod Traced
+pub mod Unchanged
 pub mod ManualOperator
 pub mod Dates
 pub mod Lives

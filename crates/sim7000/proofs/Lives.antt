@@ -48,7 +48,7 @@ serve text told room line state sent chunk =
 module _ (state : List ℕ) (a : Asked) (out command : List ℕ) (size : ℕ) (clear : getD state 0 0 ≡ 0) (closed : awaitedIn (getD state 1 0) ≡ []) (given : encodeReading a (length out) ≡ read command) where
   -- what an open leaves, whatever the line's bytes are and what was sent
   abbrev stateLeft : Mode → List ℕ
-  stateLeft mode = 0 ∷ numberOf (commandFor mode a .awaited) ∷ sizeIn (commandFor mode a .echo) ∷ []
+  stateLeft mode = 0 ∷ numberOf (commandFor mode a .awaited) ∷ sizeIn (commandFor mode a .echo) ∷ 0 ∷ []
 
   abbrev sentLeft : Mode → List ℕ → List ℕ
   sentLeft mode sent = sentIn (commandFor mode a .echo) sent

@@ -1,7 +1,7 @@
--- The desk in lent parts (document 01, "The desk (added)"; document 02, CR 4; docs/DECISIONS.md 28): the 257 bytes of the line that is coming, three numbers,
+-- The desk in lent parts (document 01, "The desk (added)"; document 02, CR 4 and 7; docs/DECISIONS.md 28): the 257 bytes of the line that is coming, four numbers,
 -- `state`, and the 210 bytes of what was sent. The first number counts the bytes held, and above 257 the line is being dropped; the second is the answers that the
--- command awaits; the third is the size of the echo that comes before them, and 0, or above 210, where none does. Every number has a meaning, so no state is
--- ill-formed, and zeros are a new desk.
+-- command awaits; the third is the size of the echo that comes before them, and 0, or above 210, where none does; the fourth counts the lines since the last
+-- accepted open or reset. Every number has a meaning, so no state is ill-formed, and zeros are a new desk.
 use Prim.Native.Nat.{ℕ, _+_, _-_, _*_, _/_, _%_}
 use mathlib.Core.Path.{_≡_}
 use mathlib.Core.Bool.{cond}
@@ -10,6 +10,7 @@ use lib.Dec.{ltb, eqb}
 use lib.ListN.{getD}
 use Rattle.text.specs.Reading.{Reading, read, refused}
 use Rattle.at_command.specs.Kind.{Kind, placeOf, kindAt}
+use Rattle.desk.specs.Ordinal.{capped}
 use Rattle.desk.specs.Judge.{eventNumber, strayNumber}
 use Rattle.desk.specs.Desk.{State, resetState, Heard, quiet, event, Fed, fed}
 
@@ -30,12 +31,16 @@ numberOf (a ∷ b ∷ ks) = 14 + 13 * placeOf a + placeOf b
 
 -- ---- the desk
 
+-- a count above the greatest ordinal is read as that
 abbrev pub deskIn : List ℕ → List ℕ → List ℕ → State
 deskIn line state sent =
-    record { wire = record { bytes = line; len = getD state 0 0 }; command = record { sent = sent; size = getD state 2 0; awaited = awaitedIn (getD state 1 0) } }
+    record {
+      wire = record { bytes = line; len = getD state 0 0 };
+      command = record { sent = sent; size = getD state 2 0; awaited = awaitedIn (getD state 1 0); counted = capped (getD state 3 0) };
+    }
 
 abbrev pub numbersOf : State → List ℕ
-numbersOf s = s .wire .len ∷ numberOf (s .command .awaited) ∷ s .command .size ∷ []
+numbersOf s = s .wire .len ∷ numberOf (s .command .awaited) ∷ s .command .size ∷ s .command .counted ∷ []
 
 -- what `sim7000_reset` leaves in the numbers, whatever the bytes are
 abbrev pub resets : List ℕ → List ℕ
@@ -47,10 +52,10 @@ ExportResetKeeps state state′ = state′ ≡ resets state
 
 -- ---- feed
 
--- what is told: the event's number, 0 without one; the bytes taken; the size of the line in the text buffer; a stray's number
+-- what is told: the event's number, 0 without one; the bytes taken; the size of the line in the text buffer; a stray's number; the line's ordinal
 abbrev pub toldOf : Heard → List ℕ
-toldOf (quiet n) = 0 ∷ n ∷ 0 ∷ 0 ∷ []
-toldOf (event e n size) = eventNumber e ∷ n ∷ size ∷ strayNumber e ∷ []
+toldOf (quiet n) = 0 ∷ n ∷ 0 ∷ 0 ∷ 0 ∷ []
+toldOf (event e ordinal n size) = eventNumber e ∷ n ∷ size ∷ strayNumber e ∷ ordinal ∷ []
 
 -- the answer of `sim7000_feed`, and what it leaves in each lent part
 pub record FeedLeft : Type 0 where

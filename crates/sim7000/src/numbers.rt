@@ -6,6 +6,7 @@ ghost use Prim.Native.Nat.{_<_};
 ghost use Rattle.at_command.specs.says.Request.{kindSays};
 ghost use Rattle.at_command.specs.Kind.{kindAt};
 ghost use Rattle.desk.specs.Judge.{awaiting};
+ghost use Rattle.desk.specs.Ordinal.{capped};
 ghost use Rattle.desk.specs.Says.{commandSays};
 ghost use Rattle.sim7000.specs.Parts.{awaitedIn, numberOf};
 
@@ -54,6 +55,16 @@ pub(crate) fn number_of(command: Command) -> u64
         Command::One(a) => 1 + a.place() as u64,
         Command::Two(a, b) => 14 + 13 * a.place() as u64 + b.place() as u64,
     }
+}
+
+// A number of u64 as a count of lines: a greater one is read as the greatest.
+pub(crate) fn count_in(n: u64) -> u32
+    ensures { λ r. ⌜ r ≡ capped n ⌝ }
+{
+    if n < 4294967295 {
+        return n as u32;
+    }
+    4294967295
 }
 
 // A number of u64 as a count of bytes: both have 64 bits.

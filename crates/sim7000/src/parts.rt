@@ -9,16 +9,16 @@ ghost use Rattle.sim7000.specs.Command.{ExportOpenKeeps, ExportOpenEchoK
 ghost use Rattle.sim7000.specs.Parts.{ExportResetKeeps, ExportFeedKeeps};
 ghost use Rattle.sim7000.specs.says.Left.{LeaveKeeps};
 
-// Zeros are the state after it: idle, no echo awaited, and nothing held.
+// Zeros are the state after it: idle, no echo awaited, nothing held, and no line counted.
 #[no_mangle]
-pub extern "C" fn sim7000_reset(state: &mut [u64; 3])
+pub extern "C" fn sim7000_reset(state: &mut [u64; 4])
     ensures { λ _. ⌜ ExportResetKeeps (now (state .entry)) (now (state .exit)) ⌝ }
 {
-    *state = [0, 0, 0];
+    *state = [0, 0, 0, 0];
 }
 
 // What an open leaves in the numbers; a refusal leaves them.
-fn leave(opened: OpenedParts, state: &mut [u64; 3], size: &mut u64) -> u8
+fn leave(opened: OpenedParts, state: &mut [u64; 4], size: &mut u64) -> u8
     ensures { λ r. ⌜ LeaveKeeps opened (now (state .entry)) (now (size .entry)) r (now (state .exit)) (now (size .exit)) ⌝ }
 {
     let answer = opened.answer;
@@ -28,7 +28,8 @@ fn leave(opened: OpenedParts, state: &mut [u64; 3], size: &mut u64) -> u8
             let after = opened.command;
             let held = state[0];
             let awaited = numbers::number_of(after);
-            *state = [held, awaited, numbers::number_in(opened.echo)];
+            let kept = numbers::number_in(opened.echo);
+            *state = [held, awaited, kept, numbers::wide(opened.counted)];
             *size = numbers::number_in(n);
             0
         }
@@ -38,7 +39,7 @@ fn leave(opened: OpenedParts, state: &mut [u64; 3], size: &mut u64) -> u8
 // A command is opened and written. No open looks at the line's bytes, and this one not at what was sent, so they are not lent.
 #[no_mangle]
 pub extern "C" fn sim7000_open(
-    state: &mut [u64; 3],
+    state: &mut [u64; 4],
     request: u8,
     number: u16,
     code: u8,
@@ -56,7 +57,8 @@ pub extern "C" fn sim7000_open(
             let len = numbers::size_in(state[0]);
             let command = numbers::command_in(state[1]);
             let echo = numbers::size_in(state[2]);
-            let opened = desk::open_on(len, command, echo, q, first, second, out);
+            let counted = numbers::count_in(state[3]);
+            let opened = desk::open_on(len, command, echo, counted, q, first, second, out);
             leave(opened, state, size)
         }
     }
@@ -65,7 +67,7 @@ pub extern "C" fn sim7000_open(
 // The same for a modem with echo on: what is written is kept in `sent`, and until it comes back as a line no answer is taken for it.
 #[no_mangle]
 pub extern "C" fn sim7000_open_echo(
-    state: &mut [u64; 3],
+    state: &mut [u64; 4],
     sent: &mut [u8; 210],
     request: u8,
     number: u16,
@@ -84,7 +86,18 @@ pub extern "C" fn sim7000_open_echo(
             let len = numbers::size_in(state[0]);
             let command = numbers::command_in(state[1]);
             let echo = numbers::size_in(state[2]);
-            let opened = desk::open_echo_on(len, command, sent, echo, q, first, second, out);
+            let counted = numbers::count_in(state[3]);
+            let opened = desk::open_echo_on(
+                len,
+                command,
+                sent,
+                echo,
+                counted,
+                q,
+                first,
+                second,
+                out,
+            );
             leave(opened, state, size)
         }
     }
@@ -94,39 +107,47 @@ pub extern "C" fn sim7000_open_echo(
 #[no_mangle]
 pub extern "C" fn sim7000_feed(
     line: &mut [u8; 257],
-    state: &mut [u64; 3],
+    state: &mut [u64; 4],
     sent: &[u8; 210],
     chunk: &[u8],
     text: &mut [u8],
-    told: &mut [u64; 4],
+    told: &mut [u64; 5],
 ) -> u8
     ensures { λ r. ⌜ ExportFeedKeeps (now (line .entry)) (now (state .entry)) (now (sent .entry)) (now (chunk .entry)) (now (text .entry)) (now (told .entry)) r (now (line .exit)) (now (state .exit)) (now (text .exit)) (now (told .exit)) ⌝ }
 {
     let len = numbers::size_in(state[0]);
     let command = numbers::command_in(state[1]);
     let echo = numbers::size_in(state[2]);
-    let fed = desk::feed_on(line, len, command, sent, echo, chunk, text);
+    let counted = numbers::count_in(state[3]);
+    let fed = desk::feed_on(line, len, command, sent, echo, counted, chunk, text);
     let after = fed.command;
     let answer = fed.answer;
     let held = numbers::number_in(fed.len);
     let awaited = numbers::number_of(after);
     let kept = numbers::number_in(fed.echo);
+    let lines = numbers::wide(fed.counted);
     match answer {
         FedAnswer::Refused(k) => k,
         FedAnswer::Quiet(taken) => {
-            *state = [held, awaited, kept];
-            *told = [0, numbers::number_in(taken), 0, 0];
+            *state = [held, awaited, kept, lines];
+            *told = [0, numbers::number_in(taken), 0, 0, 0];
             0
         }
-        FedAnswer::Heard { event, taken, size } => {
+        FedAnswer::Heard {
+            event,
+            ordinal,
+            taken,
+            size,
+        } => {
             let kind = event.number();
             let stray = event.stray();
-            *state = [held, awaited, kept];
+            *state = [held, awaited, kept, lines];
             *told = [
                 kind,
                 numbers::number_in(taken),
                 numbers::number_in(size),
                 stray,
+                numbers::wide(ordinal),
             ];
             0
         }

@@ -1,5 +1,5 @@
 -- `rule` meets its contract, by the piece.
-use mathlib.Core.Path.{sym}
+use mathlib.Core.Path.{refl, sym}
 use denote.Ref.{now}
 use lib.Seq.{length-take-le}
 use borrow.Author.Needs.{needs}
@@ -22,16 +22,17 @@ returns-2 : tie.Need-returns-2
 returns-2 c = rw (c .enum-told2 .given .1) (ruled-none _ _ _)
 
 returns-3 : tie.Need-returns-3
-returns-3 c = let s = c .before .before .before .before .before .before in
-    rw (c .before .enum-told3 .given .1) (ruled-overlong _ _ _ (overlong-keeps (keptSays (now (s .args .sent)) (s .args .echo) (s .args .command)) _ (c .size-of .ensures)))
+returns-3 c = let s = c .before .before .before .before .before .before .before in
+    rw (c .before .before .enum-told3 .given .1, c .next .ensures)
+    (ruled-overlong _ _ _ refl (overlong-keeps (keptSays (now (s .args .sent)) (s .args .echo) (s .args .command) (s .args .counted)) _ (c .before .size-of .ensures)))
 
 returns-4 : tie.Need-returns-4
-returns-4 c = let m = c .before .before .before .before .before .before .before .before in
-    let s = c .before .before .before .before .before .before .before .before .before .before .before .before .before in
+returns-4 c = let m = c .before .before .before .before .before .before .before .before .before in
+    let s = m .before .before .before .before .before in
     let fits = rw (m .piece .given .1) at (s .pre .0) in
     let room = rw (m .piece .given .1) at (s .pre .1) in
-    rw (m .piece .given .1)
-    (ruled-line (keptSays (now (s .args .sent)) (s .args .echo) (s .args .command)) (s .args .taken) (now (s .args .text)) (now (s .args .line)) _ fits (c .before .before .before .before .before .rule-line .ensures) (laid-front (now (s .args .line)) (now (s .args .text)) _ _ _ fits room (c .before .before .lay .ensures)))
+    rw (m .piece .given .1, c .next2 .ensures)
+    (ruled-line (keptSays (now (s .args .sent)) (s .args .echo) (s .args .command) (s .args .counted)) (s .args .taken) (now (s .args .text)) refl (now (s .args .line)) _ fits (c .before .before .before .before .before .before .rule-line .ensures (s .args .counted)) (laid-front (now (s .args .line)) (now (s .args .text)) _ _ _ fits room (c .before .before .before .lay .ensures)))
 
 pub rule-spec : {M : Type 1} → statement M
 rule-spec =
@@ -41,10 +42,12 @@ rule-spec =
     (λ c. search needs)
     (λ c. search needs)
     (λ c κs. search needs)
+    (λ c κs. search needs)
     (λ c. search needs)
     slice-aggregate-rule-line
     (λ c κs. search needs)
     slice-aggregate-lay
+    (λ c κs. search needs)
     (λ c κs. search needs)
     returns
     returns-2

@@ -23,7 +23,7 @@ returns-2 c = λ line full. let s = c .before .before .before .before .before .b
     let kept : length (now (a .sent)) ≡ 210 = search needs in
     let o = c .before .before .before .before .before .before .before .before .before .open-on .ensures line (now (a .sent)) full in
     let asks = asked (a .request) (now (a .first)) (now (a .second)) in
-    echo-kept _ asks (answersTo asks) (now (a .out)) o (ap encodedSays (c .before .before .before .before .before .answer2 .given .1)) (request-numbers (a .request) (now (a .first)) (now (a .second)) (s .good .1 .1 .1 .1 .0)) kept (c .before .before .part .ensures .bytes) (c .lay .ensures)
+    echo-kept _ asks (answersTo asks) (now (a .out)) o (ap encodedSays (c .before .before .before .before .before .answer2 .given .1)) (request-numbers (a .request) (now (a .first)) (now (a .second)) (s .good .1 .1 .1 .1 .1 .0)) kept (c .before .before .part .ensures .bytes) (c .lay .ensures)
 
 pub open-echo-on-spec : {M : Type 1} → statement M
 open-echo-on-spec =

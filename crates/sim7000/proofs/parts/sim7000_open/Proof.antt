@@ -12,9 +12,9 @@ returns c = λ line sent full. let a = c .before .before .before .before .before
 
 returns-2 : tie.Need-returns-2
 returns-2 c = λ line sent full. let n = c .before .before .before .before .before .before .before in
-    let w = n .before .before .before .before .before .before .before in
+    let w = n .before .before .before .before .before .before .before .before .before in
     let a = w .before .before .before .before .before .before .args in
-    let made = rw (n .size-in2 .ensures, n .before .before .command-in .ensures, n .before .before .before .before .size-in .ensures) at (c .before .before .before .before .before .open-on .ensures line sent full) in
+    let made = rw (n .count-in .ensures, n .before .before .size-in2 .ensures, n .before .before .before .before .command-in .ensures, n .before .before .before .before .before .before .size-in .ensures) at (c .before .before .before .before .before .open-on .ensures line sent full) in
     c .leave .ensures line _ _ ∙ opens-left plainMode _ line _ sent _ _ (rw (w .wanted .given .1) at (w .before .before .request-in .ensures (a .first .now) (a .second .now))) _ made
 
 pub sim7000-open-spec : {M : Type 1} → statement M
@@ -24,6 +24,8 @@ sim7000-open-spec =
     (λ c κs. search needs)
     (λ c. search needs)
     (λ c. search needs)
+    (λ c. search needs)
+    (λ c κs. search needs)
     (λ c. search needs)
     (λ c κs. search needs)
     (λ c. search needs)
