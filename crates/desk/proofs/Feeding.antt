@@ -12,13 +12,13 @@ use lib.Dec.{ltb, eqb}
 use borrow.Author.Tests.{lt-ltb, le-ltb, ltb-false}
 use Rattle.text.specs.Reading.{Reading, read, refused}
 use Rattle.desk.specs.Cut.{View, dropping, held, bare, long, isPrompt, ended, cutOne}
-use Rattle.desk.specs.Machine.{Stop, onward, feed, Ruled, commandOf}
+use Rattle.desk.specs.Machine.{Stop, onward, feed, Ruled, commandOf, eventOf}
 use Rattle.desk.specs.Ordinal.{capped, Numbered}
 use Rattle.desk.specs.Lines.{Line, overlong, line, lineOf}
 use Rattle.desk.specs.Judge as J
 use Rattle.desk.specs.Judge.{Seen, judge}
 use Rattle.desk.specs.Desk as H
-use Rattle.desk.specs.Desk.{Tray, Kept, State, viewOf, layOne, buffered, judgeKept, Heard, event, fed}
+use Rattle.desk.specs.Desk.{Tray, Kept, State, viewOf, layOne, buffered, judgeKept, Heard, event, heardOf, fed}
 use Rattle.desk.specs.Search.{foundAfter, Judges, Tells}
 use Rattle.desk.specs.Says.{pieceSays, sizeOf}
 use Rattle.desk.specs.declared.cutter.Piece.{Piece as PieceCode}
@@ -114,14 +114,20 @@ unfolding fed
 fed-ruled s chunk text e h r =
     rw (r .commands, r .answers, r .texts, e ∙ found-whole (s .wire) chunk, le-ltb (length text) 256 h, judged-feed judgeKept buffered chunk s)
 
--- ---- the command after a feed is the one before it, or the one after a line
+-- ---- what a feed answers and keeps: it is refused, or a search told a line or none
 
-pub fed-command : (P : Kept → Type 0) (s : State) (chunk text : List ℕ) → P (s .command) → ((l : Line) → P (judgeKept (s .command) l .command)) → P (fed s chunk text .state .command)
+pub fed-cases : (P : Reading Heard → Kept → Type 0) (s : State) (chunk text : List ℕ) → P (refused 10) (s .command)
+    → ((n : ℕ) (o : Option Line) → let r = Option·map (judgeKept (s .command)) o in P (read (heardOf n (eventOf r))) (commandOf (s .command) r))
+    → P (fed s chunk text .answer) (fed s chunk text .state .command)
 unfolding fed
-fed-command P s chunk text p q =
+fed-cases P s chunk text p q =
     ⊎-elim (λ (f : ltb (length text) 256 ≡ true). rw f p)
-    (λ (f : ltb (length text) 256 ≡ false). rw (f, judged-feed judgeKept buffered chunk s) (by (feed buffered (s .wire) chunk .tell)))
+    (λ (f : ltb (length text) 256 ≡ false). rw (f, judged-feed judgeKept buffered chunk s) (q (feed buffered (s .wire) chunk .taken) (feed buffered (s .wire) chunk .tell)))
     (both (ltb (length text) 256))
+
+-- the command after a feed is the one before it, or the one after a line
+pub fed-command : (P : Kept → Type 0) (s : State) (chunk text : List ℕ) → P (s .command) → ((l : Line) → P (judgeKept (s .command) l .command)) → P (fed s chunk text .state .command)
+fed-command P s chunk text p q = fed-cases (λ a k. P k) s chunk text p (λ n o. by o)
   where
     by : (o : Option Line) → P (commandOf (s .command) (Option·map (judgeKept (s .command)) o))
     by none = p

@@ -1,5 +1,5 @@
 -- What a caller leans on besides demand 3: what stays as it was, and the prompt.
-use Prim.Native.Nat.{ℕ, _<_}
+use Prim.Native.Nat.{ℕ, suc, _<_}
 use mathlib.Core.Path.{_≡_, refl, sym, ap, _∙_}
 use mathlib.Core.Bool.{true, false}
 use mathlib.Core.Logic.{⊎-elim}
@@ -9,19 +9,19 @@ use lib.ListN.{length, replicate}
 use lib.Dec.{ltb}
 use borrow.Author.Tests.{ltb-true}
 use Rattle.text.specs.Bytes.{bytes, same, startsWith, endsWith}
-use Rattle.text.specs.Reading.{read, refused}
+use Rattle.text.specs.Reading.{Reading, read, refused}
 use Rattle.at_command.specs.says.Request.{encodedSays}
 use Rattle.at_command.specs.declared.request.Request.{Request}
 use Rattle.at_command.specs.declared.request.Encoded.{Encoded}
 use Rattle.desk.specs.Cut.{held, bare, cutOne}
 use Rattle.trial.specs.Sort.{lineSort}
 use Rattle.desk.specs.Machine.{tells, feed, commandOf, eventOf}
-use Rattle.desk.specs.Ordinal.{Numbered}
+use Rattle.desk.specs.Ordinal.{capped, Numbered}
 use Rattle.desk.specs.Lines as L
 use Rattle.desk.specs.Lines.{Line, overlong, cutter, linesOf}
-use Rattle.desk.specs.Judge.{Overlong, Seen, idle, judge}
+use Rattle.desk.specs.Judge.{Event, Overlong, Seen, idle, judge}
 use Rattle.desk.specs.Rules.{fresh, Mode}
-use Rattle.desk.specs.Desk.{Kept, commandKept, judgeKept, State, buffered, viewed, desk, newState, resetState, quiet, event, heardOf, textOf, Fed, fed}
+use Rattle.desk.specs.Desk.{Kept, commandKept, judgeKept, State, buffered, viewed, desk, newState, resetState, Heard, quiet, event, heardOf, textOf, Fed, fed}
 use Rattle.desk.specs.Says.{answerSays, stateIn, stateOf, fedSays, partsSays}
 use Rattle.desk.specs.Keeps.{FeedKeeps, FeedLentKeeps, FeedOnKeeps, OpenKeeps, OpenLentKeeps, OpenOnKeeps, OpenEchoOnKeeps}
 use Rattle.desk.specs.declared.Desk.{Desk}
@@ -35,7 +35,7 @@ use Rattle.text.proofs.Tests.{both, never}
 use Rattle.desk.proofs.One.{same-desk, same-command}
 use Rattle.desk.proofs.Machine.{judged-feed}
 use Rattle.desk.proofs.Judging.{ruling-event}
-use Rattle.desk.proofs.Feeding.{fed-command}
+use Rattle.desk.proofs.Feeding.{fed-cases, fed-command}
 use Rattle.desk.proofs.Opening.{opened-same}
 
 -- ---- a refusing call changes neither the desk nor a lent byte: by value, of a lent desk, and of a desk that is lent in parts
@@ -116,21 +116,25 @@ new-fresh = (refl, refl)
 pub reset-fresh : (s : State) → (viewed (resetState s) ≡ fresh idle) × (resetState s .command .counted ≡ 0)
 reset-fresh s = (refl, refl)
 
--- ---- a feed with no event leaves the command and the count
+-- ---- a feed with no event leaves the command and the count; with one the ordinal is the next, and the count after it
 
-quiet-kept : (k : Kept) (n : ℕ) (o : Option Line) {m : ℕ} → read (heardOf n (eventOf (Option·map (judgeKept k) o))) ≡ read (quiet m) → commandOf k (Option·map (judgeKept k) o) ≡ k
-quiet-kept k n none e = refl
-quiet-kept k n (some l) e = never (cc)
+pub quiet-keeps : (s : State) (chunk text : List ℕ) {m : ℕ} → fed s chunk text .answer ≡ read (quiet m) → fed s chunk text .state .command ≡ s .command
+quiet-keeps s chunk text {m} = fed-cases (λ a k. a ≡ read (quiet m) → k ≡ s .command) s chunk text (λ e. refl) by
+  where
+    by : (n : ℕ) (o : Option Line) → let r = Option·map (judgeKept (s .command)) o in read (heardOf n (eventOf r)) ≡ read (quiet m) → commandOf (s .command) r ≡ s .command
+    by n none e = refl
+    by n (some l) e = never (cc)
 
-pub quiet-keeps : (s : State) (chunk text : List ℕ) (f : Fed) → f ≡ fed s chunk text → {m : ℕ} → f .answer ≡ read (quiet m) → f .state .command ≡ s .command
-unfolding fed
-quiet-keeps s chunk text f kept a =
-    let j = judged-feed judgeKept buffered chunk s in
-    let e = ap (λ (x : Fed). x .answer) (sym kept) ∙ a in
-    ap (λ (x : Fed). x .state .command) kept
-    ∙ ⊎-elim (λ (t : ltb (length text) 256 ≡ true). rw t)
-    (λ (t : ltb (length text) 256 ≡ false). let g = rw (t, j) at e in rw (t, j) (quiet-kept (s .command) _ (feed buffered (s .wire) chunk .tell) g))
-    (both (ltb (length text) 256))
+abbrev pub NextOrdinal : Kept → Reading Heard → Kept → Type 0
+NextOrdinal k a k′ = (x : Event) (ordinal m size : ℕ) → a ≡ read (event x ordinal m size) → (ordinal ≡ capped (suc (k .counted))) × (k′ .counted ≡ ordinal)
+
+pub heard-counts : (s : State) (chunk text : List ℕ) → NextOrdinal (s .command) (fed s chunk text .answer) (fed s chunk text .state .command)
+unfolding judgeKept
+heard-counts s chunk text = fed-cases (NextOrdinal (s .command)) s chunk text (λ x ordinal m size e. never (cc)) by
+  where
+    by : (n : ℕ) (o : Option Line) → let r = Option·map (judgeKept (s .command)) o in NextOrdinal (s .command) (read (heardOf n (eventOf r))) (commandOf (s .command) r)
+    by n none x ordinal m size e = never (cc)
+    by n (some l) x ordinal m size e = let is : capped (suc (s .command .counted)) ≡ ordinal = cc in (sym is, is)
 
 -- ---- a feed changes nothing in the bytes that are kept
 

@@ -54,7 +54,7 @@ module _ (line state sent chunk text told : List ℕ) where
   Own = fed (deskIn line state sent) chunk text
 
   -- what a feed that is not refused leaves
-  record Heeded (line′ state′ text′ told′ : List ℕ) : Type 0 where
+  pub record Heeded (line′ state′ text′ told′ : List ℕ) : Type 0 where
     pub heard : Heard
     pub answers : Own .answer ≡ read heard
     pub lines : line′ ≡ Own .state .wire .bytes
@@ -62,7 +62,7 @@ module _ (line state sent chunk text told : List ℕ) where
     pub texts : text′ ≡ Own .text
     pub tells : told′ ≡ toldOf heard
 
-  heeded : (r : ℕ) (line′ state′ text′ told′ : List ℕ) → ExportFeedKeeps line state sent chunk text told r line′ state′ text′ told′ → r ≡ 0 → Heeded line′ state′ text′ told′
+  pub heeded : (r : ℕ) (line′ state′ text′ told′ : List ℕ) → ExportFeedKeeps line state sent chunk text told r line′ state′ text′ told′ → r ≡ 0 → Heeded line′ state′ text′ told′
   unfolding feeds
   heeded r line′ state′ text′ told′ kept fine = go (Own .answer) refl
     where

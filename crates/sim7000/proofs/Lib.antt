@@ -7,6 +7,7 @@ pub mod One
 pub mod Desks
 pub mod Demand
 pub mod Traced
+pub mod Ordinals
 pub mod Unchanged
 pub mod ManualOperator
 pub mod Dates

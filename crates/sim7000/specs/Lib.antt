@@ -6,3 +6,4 @@ pub mod ManualOperator
 pub mod Dates
 pub mod says
 pub mod Calls
+pub mod Ordinals
