@@ -1,5 +1,6 @@
 //! compare SEED LINES REQUESTS: runs the oracle and our programs on the same generated input and weighs every answer; see README.md.
 //! compare sample DIR: writes the fixed list with its answers.
+//! compare list lines|busy|requests SEED COUNT FILE: writes random inputs inside the domain of equality, for the benchmark.
 
 mod boundary;
 mod domain;
@@ -251,15 +252,29 @@ fn list(kind: Kind, seed: u64, count: usize, file: &str) -> std::io::Result<()> 
     std::fs::write(file, bytes)
 }
 
+/// So many lines of a modem on a busy cell, each with an LF. All lie inside the domain.
+fn busy(seed: u64, count: usize, file: &str) -> std::io::Result<()> {
+    let lines = random::busy(&mut Rng(seed), count);
+    if let Some(line) = lines.iter().find(|line| Kind::Lines.outside(line.as_bytes()).is_some()) {
+        fail(format!("outside the domain of equality: {}", line));
+    }
+    std::fs::write(file, lines.join("\n") + "\n")
+}
+
 fn main() -> std::io::Result<()> {
     let args: Vec<String> = std::env::args().skip(1).collect();
     if args.len() == 2 && args[0] == "sample" {
         return sample(&args[1]);
     }
     if args.len() == 5 && args[0] == "list" {
-        let kind = if args[1] == "lines" { Kind::Lines } else { Kind::Requests };
         let number = |text: &str| text.parse().unwrap_or_else(|_| fail(format!("{} is no number", text)));
-        return list(kind, number(&args[2]), number(&args[3]) as usize, &args[4]);
+        let (seed, count) = (number(&args[2]), number(&args[3]) as usize);
+        return match args[1].as_str() {
+            "lines" => list(Kind::Lines, seed, count, &args[4]),
+            "busy" => busy(seed, count, &args[4]),
+            "requests" => list(Kind::Requests, seed, count, &args[4]),
+            name => fail(format!("{} is no list", name)),
+        };
     }
     let number = |at: usize, standard: u64| args.get(at).map_or(standard, |text| text.parse().unwrap_or_else(|_| fail(format!("{} is no number", text))));
     let (seed, lines, requests) = (number(0, 1), number(1, 2_000_000), number(2, 200_000));

@@ -1,4 +1,5 @@
-//! Random lines and requests: good ones of every reader and writer in many shapes, then damaged copies, noise and long ones.
+//! Random lines and requests: good ones of every reader and writer in many shapes, then damaged copies, noise and long ones. Also what a modem sends on a
+//! busy cell, for the benchmark alone.
 
 use crate::boundary;
 use crate::texts::*;
@@ -439,6 +440,88 @@ fn pad(rng: &mut Rng, line: &mut Vec<u8>) {
     let byte = rng.pick(&["x", "0", "f", " ", ",", "\""]).as_bytes()[0];
     if line.len() < length {
         line.resize(length, byte);
+    }
+}
+
+/// What a modem sends on a busy cell in so many lines: a position each second, with five to nine other lines behind it, all of usual shapes.
+pub fn busy(rng: &mut Rng, count: usize) -> Vec<String> {
+    let mut lines = Vec::new();
+    for second in 0.. {
+        lines.push(position(rng, second));
+        for _ in 0..rng.between(5, 9) {
+            lines.push(between_positions(rng));
+        }
+        if lines.len() >= count {
+            break;
+        }
+    }
+    lines.truncate(count);
+    lines
+}
+
+/// One in twenty has no fix yet.
+fn position(rng: &mut Rng, second: usize) -> String {
+    let (hour, minute) = (second / 3600 % 24, second / 60 % 60);
+    let time = format!("20261116{:02}{:02}{:02}.000", hour, minute, second % 60);
+    let in_view = rng.between(6, 14);
+    if rng.percent(5) {
+        return format!("+UGNSINF: 1,0,{},,,,0.00,0.0,0,,,,,,{},,,,,,", time, in_view);
+    }
+    let (speed, course) = (rng.below(200), rng.below(3600));
+    let dop = rng.between(7, 19);
+    format!(
+        "+UGNSINF: 1,1,{},55.{:06},12.{:06},{}.{}00,{}.{:02},{}.{},1,,{}.{},{}.{},{}.{},,{},{},{},,{},,",
+        time,
+        rng.between(676_000, 676_999),
+        rng.between(568_000, 568_999),
+        rng.between(5, 60),
+        rng.below(10),
+        speed / 100,
+        speed % 100,
+        course / 10,
+        course % 10,
+        dop / 10,
+        dop % 10,
+        (dop + 4) / 10,
+        (dop + 4) % 10,
+        (dop - 1) / 10,
+        (dop - 1) % 10,
+        in_view,
+        rng.between(4, 11),
+        rng.below(5),
+        rng.between(30, 48)
+    )
+}
+
+fn between_positions(rng: &mut Rng) -> String {
+    match rng.below(100) {
+        0..=54 => registered(rng),
+        55..=74 => format!("+CSQ: {},{}", rng.between(8, 31), if rng.percent(80) { 99 } else { rng.below(8) }),
+        75..=95 => "OK".to_string(),
+        96..=97 => rng.pick(&["+COPS: 0,0,\"TDC\",7", "+COPS: 0,2,\"23801\",7", "+COPS: 1,0,\"Telia DK\",9", "+COPS: 0"]).to_string(),
+        _ => format!(
+            "+CPSI: LTE CAT-M1,Online,238-01,0x{:04X},{},{},EUTRAN-BAND20,6300,3,3,-{},-{},-{},{}",
+            rng.below(1 << 16),
+            rng.below(1 << 28),
+            rng.below(504),
+            rng.between(8, 19),
+            rng.between(80, 120),
+            rng.between(50, 95),
+            rng.between(5, 20)
+        ),
+    }
+}
+
+/// Mostly at home; the status alone, told anew or asked for, or the cell behind it.
+fn registered(rng: &mut Rng) -> String {
+    let name = rng.pick(&["+CREG", "+CGREG", "+CEREG"]);
+    let status = rng.pick(&["1", "1", "1", "1", "5", "5", "2", "0"]);
+    let cell = format!("\"{:04X}\",\"{:08X}\",{}", rng.below(1 << 16), rng.below(1 << 28), rng.pick(&["7", "7", "9", "0"]));
+    match rng.below(10) {
+        0..=3 => format!("{}: {}", name, status),
+        4 => format!("{}: 0,{}", name, status),
+        5..=7 => format!("{}: {},{}", name, status, cell),
+        _ => format!("{}: 2,{},{}", name, status, cell),
     }
 }
 

@@ -412,7 +412,7 @@ fn response<'a>(line: &'a [u8], reader: u64, v: &[u64]) -> ResponseCode<'a> {
 }
 
 impl<'a> Line<'a> {
-    /// Reads a line without its CR LF, by both trials: 1, 2, then 4 or 13, then 3 where it is refused.
+    /// Reads a line without its CR LF, as both trials in turn do: 1, 2, then 4 or 13, then 3 where it is refused.
     pub fn from_line(line: &'a [u8]) -> Result<Self, Refusal> {
         let mut values = [0; 20];
         // The pointer goes with the slice's length, and `values` is lent to this call alone.

@@ -27,6 +27,7 @@ use text::number::ParsedU32;
 use text::part;
 use text::part::Place;
 use trial::Line;
+use trial::straight;
 use unsolicited::Urc;
 use unsolicited::network_registration::NetworkRegistration;
 use unsolicited::network_registration::RegistrationStatus;
@@ -306,7 +307,7 @@ fn urc(u: Urc) -> Said {
 }
 
 fn say(line: &[u8]) -> Said {
-    let said = Line::from_line(line);
+    let said = straight::said(line);
     match said {
         Line::Response(code) => response(code),
         Line::Unsolicited(u) => urc(u),

@@ -1,10 +1,15 @@
 -- A kind of response and its place in the order of trial. Assumes nothing.
-use mathlib.Core.Path.{_≡_, refl}
+use mathlib.Core.Path.{_≡_, refl, sym}
+use mathlib.Core.Bool.{Bool, true, false}
 use mathlib.Core.List.{List, [], _∷_}
-use Prim.Native.Nat.{ℕ, suc}
+use Prim.Native.Nat.{ℕ, suc, _≤_, _<_}
+use native.Mathlib.Omega.{arith}
+use lib.Dec.{eqb}
+use lib.ListN.{getD, List·getD-eq-default}
+use borrow.Author.Tests.{eqb-true, eqb-false}
 use Rattle.text.specs.Reading.{Reading, read, refused, mapped}
 use Rattle.text.proofs.Yields.{Yields}
-use Rattle.at_command.specs.Kind.{Kind, genericOk, simError, writePrompt, closeOk, iccid, signalQuality, systemInfo, operatorInfo, networkTime, downloadInfo, imei, smsMessageFormat, smsMessage, placeOf, kindAt}
+use Rattle.at_command.specs.Kind.{Kind, genericOk, simError, writePrompt, closeOk, iccid, signalQuality, systemInfo, operatorInfo, networkTime, downloadInfo, imei, smsMessageFormat, smsMessage, placeOf, kinds, kindAt}
 use Rattle.at_command.specs.Response.{Response, kindOf, readings}
 use Rattle.at_command.specs.Response as R
 
@@ -23,6 +28,30 @@ at-place downloadInfo = refl
 at-place imei = refl
 at-place smsMessageFormat = refl
 at-place smsMessage = refl
+
+pub place-few : (k : Kind) → placeOf k < 13
+place-few genericOk = omega arith
+place-few simError = omega arith
+place-few writePrompt = omega arith
+place-few closeOk = omega arith
+place-few iccid = omega arith
+place-few signalQuality = omega arith
+place-few systemInfo = omega arith
+place-few operatorInfo = omega arith
+place-few networkTime = omega arith
+place-few downloadInfo = omega arith
+place-few imei = omega arith
+place-few smsMessageFormat = omega arith
+place-few smsMessage = omega arith
+
+-- past the last kind there is the last
+pub kind-past : (k : ℕ) → 12 ≤ k → smsMessage ≡ kindAt k
+unfolding kindAt
+kind-past k h = go (eqb k 12) (eqb-true k 12) (eqb-false k 12)
+  where
+    go : (t : Bool) → (t ≡ true → k ≡ 12) → (t ≡ false → k ≡ 12 → ⊥) → smsMessage ≡ getD kinds k smsMessage
+    go true f g = rw (f refl)
+    go false f g = sym (List·getD-eq-default kinds smsMessage {n = k} (let n = g refl in omega arith))
 
 -- what the reader at a place of the trial reads is of the kind at that place
 unfoldable pub InOrder : ℕ → List (Reading Response) → Type 0

@@ -36,7 +36,7 @@ use Rattle.at_command.specs.says.Gsn.{ImeiKeeps}
 use Rattle.at_command.specs.says.Httptofs as Httptofs
 use Rattle.at_command.specs.says.Httptofs.{DownloadInfoKeeps, SuccessKeeps}
 use Rattle.at_command.specs.says.Response as Response
-use Rattle.at_command.specs.says.Response.{ResponseCodeKeeps}
+use Rattle.at_command.specs.says.Response.{ResponseCodeKeeps, ResponseAtKeeps}
 use Rattle.at_command.specs.declared.cmgf.SmsMessageFormat.{SmsMessageFormat}
 use Rattle.at_command.specs.declared.cmgf.SmsMessageFormat.the-variants as format
 use Rattle.at_command.specs.declared.cpsi.SystemMode.{SystemMode}
@@ -380,6 +380,10 @@ response-back (A.Refused k) = refl
 -- one answer: ResponseCode::from_line
 pub one-response : (line : List ℕ) (a b : ResponseCodeAnswer) → ResponseCodeKeeps line a → ResponseCodeKeeps line b → a ≡ b
 one-response line a b = one-answer Response.says (answer A.Value A.Refused codeOf) response-back a b _
+
+-- one answer: straight::read_at
+pub one-response-at : (place : ℕ) (line : List ℕ) (a b : ResponseCodeAnswer) → ResponseAtKeeps place line a → ResponseAtKeeps place line b → a ≡ b
+one-response-at place line a b = one-answer Response.says (answer A.Value A.Refused codeOf) response-back a b _
 
 -- the status of a download
 abbrev successOf : Option ℕ → Success

@@ -7,7 +7,7 @@ use Rattle.text.proofs.One.{one-answer}
 use Rattle.text.specs.Reading.{Reading, read, refused}
 use Rattle.at_command.specs.Kind.{Kind, genericOk, simError, writePrompt, closeOk, iccid, signalQuality, systemInfo, operatorInfo, networkTime, downloadInfo, imei, smsMessageFormat, smsMessage}
 use Rattle.at_command.specs.Request.{Asked, answersTo}
-use Rattle.at_command.specs.says.Request.{encodedSays, asked, kindSays, awaitsSays, awaitedBy, EncodeKeeps, AwaitsKeeps}
+use Rattle.at_command.specs.says.Request.{encodedSays, asked, kindSays, awaitsSays, awaitedBy, KindAtKeeps, EncodeKeeps, AwaitsKeeps}
 use Rattle.at_command.specs.says.Response.{KindKeeps}
 use Rattle.at_command.specs.declared.ResponseCode.{ResponseCode}
 use Rattle.at_command.specs.declared.request.Encoded.{Encoded}
@@ -78,6 +78,10 @@ awaits-back (Two a b) = rw (kind-back a, kind-back b)
 -- one answer: request::Request::awaits
 pub one-awaits : (request : Request) (a b : Awaits) → AwaitsKeeps request a → AwaitsKeeps request b → a ≡ b
 one-awaits request a b = one-answer awaitsSays awaits awaits-back a b _
+
+-- one answer: request::ResponseKind::at
+pub one-kind-at : (place : ℕ) (a b : ResponseKind) → KindAtKeeps place a → KindAtKeeps place b → a ≡ b
+one-kind-at place a b = one-answer kindSays kind kind-back a b _
 
 -- one answer: ResponseCode::kind
 pub one-kind : (code : ResponseCode) (a b : ResponseKind) → KindKeeps code a → KindKeeps code b → a ≡ b

@@ -2,6 +2,7 @@ pub mod Ccid
 pub mod Cmgf
 pub mod Cmgr
 pub mod Cntp
+pub mod Conditions
 pub mod Cops
 pub mod Cpsi
 pub mod Csq

@@ -1,6 +1,7 @@
 -- What a response line says, and the thirteen readers in the Rust's order of trial (document 01, "What the port takes"; mod.rs).
 use Prim.Native.Nat.{ℕ}
 use mathlib.Core.List.{List, [], _∷_}
+use Rattle.text.specs.Condition.{nthReading}
 use Rattle.text.specs.Part.{Span}
 use Rattle.text.specs.Reading.{Reading, Mark, mapped, firstOf}
 use Rattle.at_command.specs.Ccid.{Card, iccidText}
@@ -69,3 +70,7 @@ readings s =
 -- the first that accepts; else 4 if one said 4; else 3
 unfoldable pub responseText : List ℕ → Reading Response
 responseText s = firstOf 3 (readings s)
+
+-- what one of them says, by its place in that order; past the last, a refusal with 3
+unfoldable pub readingAt : ℕ → List ℕ → Reading Response
+readingAt place s = nthReading place (readings s)

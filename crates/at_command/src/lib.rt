@@ -62,6 +62,7 @@ pub mod generic_response;
 pub mod gsn;
 pub mod httptofs;
 pub mod request;
+pub mod straight;
 mod unquoted;
 mod write;
 

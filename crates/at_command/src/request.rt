@@ -15,7 +15,7 @@ use crate::gsn::GetImei;
 use crate::httptofs::DownloadToFileSystem;
 ghost use Rattle.text.specs.Gives.{Gives};
 ghost use Rattle.at_command.specs.Kind.{placeOf};
-ghost use Rattle.at_command.specs.says.Request.{kindSays, asked, EncodeKeeps, AwaitsKeeps};
+ghost use Rattle.at_command.specs.says.Request.{kindSays, asked, KindAtKeeps, EncodeKeeps, AwaitsKeeps};
 
 // The size of the command that was written, or the refusal: 5, 12, 6 or 7.
 pub enum Encoded {
@@ -59,6 +59,27 @@ impl ResponseKind {
             ResponseKind::Imei => 10,
             ResponseKind::SmsMessageFormat => 11,
             ResponseKind::SmsMessage => 12,
+        }
+    }
+
+    // The kind at a place; past the last, the last.
+    pub fn at(place: u64) -> ResponseKind
+        ensures { λ r. ⌜ KindAtKeeps place r ⌝ }
+    {
+        match place {
+            0 => ResponseKind::GenericOk,
+            1 => ResponseKind::SimError,
+            2 => ResponseKind::WritePrompt,
+            3 => ResponseKind::CloseOk,
+            4 => ResponseKind::Iccid,
+            5 => ResponseKind::SignalQuality,
+            6 => ResponseKind::SystemInfo,
+            7 => ResponseKind::OperatorInfo,
+            8 => ResponseKind::NetworkTime,
+            9 => ResponseKind::DownloadInfo,
+            10 => ResponseKind::Imei,
+            11 => ResponseKind::SmsMessageFormat,
+            _ => ResponseKind::SmsMessage,
         }
     }
 }

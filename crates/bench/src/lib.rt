@@ -1,9 +1,11 @@
-// A feed by value for oracle/bench: an idle desk is made of its parts, fed, and taken apart again, beside the call that lends the parts.
+// For oracle/bench: a feed by value, where an idle desk is made of its parts, fed, and taken apart again, beside the call that lends the parts; and the ordered trial.
 use desk::Command;
 use desk::Cutter;
 use desk::Desk;
 use desk::FedAnswer;
+use trial::Sort;
 ghost use Rattle.bench.specs.Bench.{BenchFeedKeeps};
+ghost use Rattle.bench.specs.Sort.{SortInOrderKeeps};
 
 // 10, with all as before; or 1 with an event and 0 without one, and told has the bytes taken and the size of the line in text.
 #[no_mangle]
@@ -53,5 +55,18 @@ pub extern "C" fn bench_feed(
             *told = [taken, size];
             1
         }
+    }
+}
+
+// The place of the response that takes the line, from 1; 14 for an unsolicited one; or 128 and the refusal.
+#[no_mangle]
+pub extern "C" fn bench_sort_in_order(line: &[u8]) -> u8
+    ensures { λ r. ⌜ SortInOrderKeeps (now (line .entry)) r ⌝ }
+{
+    let sort = trial::sort_of(line);
+    match sort {
+        Sort::Refused(k) => 128 + k,
+        Sort::Response(kind) => kind.place() + 1,
+        Sort::Unsolicited => 14,
     }
 }

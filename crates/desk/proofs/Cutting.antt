@@ -213,6 +213,9 @@ module _ (s : List ℕ) (full : length s ≡ 257) (len b : ℕ) where
   pub prompt-other : len ≡ 1 → (b ≡ 32 → ⊥) → false ≡ Prompt
   prompt-other e f = sym (prompt-at e ∙ rw (ne-eqb b 32 f) (and-false (eqb (getD s 0 0) 62)))
 
+  pub prompt-first : len ≡ 1 → (getD s 0 0 ≡ 62 → ⊥) → false ≡ Prompt
+  prompt-first e f = sym (prompt-at e ∙ rw (ne-eqb (getD s 0 0) 62 f))
+
   pub prompt-far : len ≤ 257 → (len ≡ 1 → ⊥) → false ≡ Prompt
   prompt-far h e = other-length (take len s ++ b ∷ []) (bytes "> ") (λ k. e (omega (arith, snoc-length (take len s) b, size-at s full len h)))
 

@@ -1,26 +1,23 @@
 -- Laws of a search through a chunk: its turns, the bytes that are laid at once, and the bytes with no LF.
-use Prim.Native.Nat.{ℕ, zero, suc, _+_, _-_, _≤_, _<_}
-use mathlib.Core.Path.{_≡_, refl, sym, ap, subst, _∙_}
-use mathlib.Core.Bool.{true, false}
+use Prim.Native.Nat.{ℕ, suc, _+_, _-_, _≤_, _<_}
+use mathlib.Core.Path.{_≡_, refl, sym, _∙_}
+use mathlib.Core.Bool.{Bool, true, false, _||_}
 use mathlib.Core.Logic.{⊎-elim}
 use mathlib.Core.List.{List, [], _∷_, _++_}
 use mathlib.Core.Option.{none}
 use native.Mathlib.Omega.{arith}
 use native.Mathlib.Numerals.{add-one}
-use lib.ListN.{length, take, drop, getD, set, length-set, length-drop, drop-of-length-le}
-use lib.Seq.{drop-cons, getD-drop, length-take-le, paste, paste-zero, paste-suc}
-use lib.Dec.{ltb}
-use borrow.Author.Tests.{ltb-true, ltb-false}
-use Rattle.desk.specs.Cut.{Piece, nothing, blank, overlong, line}
+use lib.ListN.{length, take, drop, getD, set, length-set, drop-of-length-le}
+use lib.Seq.{drop-cons, getD-set-same}
+use lib.Dec.{ltb, eqb}
+use borrow.Author.Tests.{ltb-true, ltb-false, eqb-true, eqb-false}
+use Rattle.desk.specs.Cut.{Piece, nothing, blank, overlong, line, isPrompt}
 use Rattle.desk.specs.Machine.{Stop, onward, feed}
 use Rattle.desk.specs.Lines.{Line, lineOf}
 use Rattle.desk.specs.Desk.{Tray, layOne, buffered}
-use Rattle.desk.specs.Search.{trayOf, Pushed, pushOne, stops, foundAfter, Filled, Clear, Putting}
-use Rattle.text.specs.Copy.{LayKeeps}
-use Rattle.text.specs.Part.{partOf}
-use Rattle.text.proofs.Copying.{whole-holds}
-use Rattle.text.proofs.Tests.{both, never}
-use Rattle.desk.proofs.Cutting.{past-below, prompt-far, push-more}
+use Rattle.desk.specs.Search.{trayOf, Pushed, pushOne, stops, foundAfter, Filled, Clear, Plain, Room, Laid}
+use Rattle.text.proofs.Tests.{both, neither, never}
+use Rattle.desk.proofs.Cutting.{past-below, prompt-first, prompt-far, push-more}
 
 -- ---- one byte more
 
@@ -72,33 +69,7 @@ fill-none s len chunk at =
     let g : len + 0 ≡ len = omega arith in
     record { few = omega arith; fits = omega arith; long = refl; on = rw (e, g) }
 
--- a byte that is no LF, where at least two are held and one more is not past the length
-keep-byte : (s : List ℕ) (len b : ℕ) → length s ≡ 257 → 2 ≤ len → len < 256 → (b ≡ 10 → ⊥)
-    → _≡_ {A = Pushed} (record { tray = trayOf (set s len b) (len + 1); piece = nothing }) (pushOne (trayOf s len) b)
-keep-byte s len b full two room e =
-    push-more s full len b e (past-below len b room) refl (prompt-far s full len b (omega arith) (λ k. omega arith)) refl
-
-pub fill-more : (s : List ℕ) (len : ℕ) (chunk : List ℕ) (at n : ℕ) (now : List ℕ) → Putting s len chunk at (n + 1) → Filled s len chunk at n now
-    → Filled s len chunk at (n + 1) (set now (len + n) (getD chunk (at + n) 0))
-fill-more s len chunk at n now p f =
-    let full : length now ≡ 257 = f .long ∙ p .long in
-    let e : at + (n + 1) ≡ at + n + 1 = omega arith in
-    let g : len + (n + 1) ≡ len + n + 1 = omega arith in
-    record {
-      few = omega arith;
-      fits = omega arith;
-      long = simp length-set (f .long);
-      on =
-          rw (e, g)
-          (f .on
-          ∙ search-on chunk (at + n) (trayOf now (len + n)) (omega arith)
-          (keep-byte now (len + n) (getD chunk (at + n) 0) full (omega arith) (omega arith) (p .clear .none n (omega arith))) refl);
-    }
-
 -- ---- bytes with no LF
-
-pub clear-none : (s : List ℕ) (at : ℕ) → Clear s at 0
-clear-none s at = record { none = λ k h e. omega arith }
 
 pub clear-join : {s : List ℕ} {at n m : ℕ} → Clear s at n → Clear s (at + n) m → Clear s at (n + m)
 clear-join {s} {at} {n} {m} f g =
@@ -119,34 +90,95 @@ clear-at {s} {at} g = record { none = λ k h e. let z : at + k ≡ at = omega ar
 pub clear-one : {s : List ℕ} {at n : ℕ} → Clear s at n → (getD s (at + n) 0 ≡ 10 → ⊥) → Clear s at (n + 1)
 clear-one f g = clear-join f (clear-at g)
 
--- fewer bytes have none either
-pub clear-part : {s : List ℕ} {at n m : ℕ} → m ≤ n → Clear s at n → Clear s at m
-clear-part h f = record { none = λ k g e. f .none k (omega arith) e }
+-- tests joined by `|`
+pub clear-test : {s : List ℕ} {at : ℕ} → eqb (getD s at 0) 10 ≡ false → Clear s at 1
+clear-test e = clear-at (eqb-false _ 10 e)
 
--- ---- bytes laid by text's copying
+pub clear-tests : {s : List ℕ} {at n : ℕ} {x : Bool} → (x ≡ false → Clear s at n) → x || eqb (getD s (at + n) 0) 10 ≡ false → Clear s at (n + 1)
+clear-tests f e = let g = neither _ _ e in clear-one (f (g .0)) (eqb-false _ 10 (g .1))
 
-fill-all : (s : List ℕ) (len : ℕ) (chunk : List ℕ) (at n : ℕ) → Putting s len chunk at n → Filled s len chunk at n (paste s len (drop at chunk) n)
-fill-all s len chunk at zero p = subst (Filled s len chunk at 0) (paste-zero s len (drop at chunk)) (fill-none s len chunk at)
-fill-all s len chunk at (suc n) p =
-    let q : Putting s len chunk at (n + 1) = subst (Putting s len chunk at) (sym (add-one n)) p in
-    let few : n ≤ n + 1 = omega arith in
-    let before : Putting s len chunk at n = record { long = q .long; two = q .two; room = omega (arith, q .room); some = omega (arith, q .some); clear = clear-part few (q .clear) } in
-    let laid : List ℕ = paste s len (drop at chunk) n in
-    let e : set laid (len + n) (getD chunk (at + n) 0) ≡ paste s len (drop at chunk) (suc n) =
-    ap (set laid (len + n)) (sym (getD-drop at chunk n 0))
-    ∙ paste-suc s len (drop at chunk) n 0 (omega (arith, q .room, q .long)) (omega (arith, q .some, length-drop at chunk)) in
-    subst (Filled s len chunk at (suc n)) e
-    (subst (λ (k : ℕ). Filled s len chunk at k (set laid (len + n) (getD chunk (at + n) 0))) (add-one n) (fill-more s len chunk at n laid q (fill-all s len chunk at n before)))
+pub clear-both : {s : List ℕ} {at n m : ℕ} {x y : Bool} → (x ≡ false → Clear s at n) → (y ≡ false → Clear s (at + n) m) → x || y ≡ false → Clear s at (n + m)
+clear-both f g e = let h = neither _ _ e in clear-join (f (h .0)) (g (h .1))
 
-pub laid-filled : (s : List ℕ) (len : ℕ) (chunk : List ℕ) (at n : ℕ) (piece : List ℕ) (e : ℕ) (x : List ℕ) → Putting s len chunk at n → piece ≡ partOf chunk at (at + n)
-    → LayKeeps piece len s e x → Filled s len chunk at n x
-unfolding partOf
-laid-filled s len chunk at n piece e x p is l =
-    let z : at + n - at ≡ n = omega arith in
-    let i : piece ≡ take n (drop at chunk) = is ∙ ap (λ (k : ℕ). take k (drop at chunk)) z in
-    let size : length piece ≡ n = ap length i ∙ length-take-le n (drop at chunk) (omega (arith, p .some, length-drop at chunk)) in
-    let w : x ≡ paste s len (drop at chunk) n =
-    whole-holds piece len s e x (omega (arith, size, p .room, p .long)) l
-    ∙ ap (λ (t : List ℕ). take len s ++ t ++ drop (len + length piece) s) i
-    ∙ ap (λ (k : ℕ). take len s ++ take n (drop at chunk) ++ drop (len + k) s) size in
-    subst (Filled s len chunk at n) (sym w) (fill-all s len chunk at n p)
+-- ---- bytes laid, none of them an LF or part of a prompt
+
+module _ {s : List ℕ} {len b : ℕ} where
+  pub plain-none : len ≡ 0 → eqb b 62 ≡ false → Plain s len b
+  plain-none z e = record { first = λ _ f. eqb-false b 62 e f; second = λ one f. omega arith }
+
+  pub plain-one : len ≡ 1 → eqb (getD s 0 0) 62 ≡ false → Plain s len b
+  plain-one z e = record { first = λ none f. omega arith; second = λ _ f. eqb-false (getD s 0 0) 62 e f }
+
+plain-push : (s : List ℕ) (len b : ℕ) → length s ≡ 257 → len < 256 → Plain s len b → false ≡ isPrompt (take len s ++ b ∷ [])
+plain-push s len b full room p =
+    ⊎-elim
+    (λ (q : eqb len 1 ≡ true). let one : len ≡ 1 = eqb-true len 1 q in prompt-first s full len b one (p .second one))
+    (λ (q : eqb len 1 ≡ false). prompt-far s full len b (omega arith) (eqb-false len 1 q))
+    (both (eqb len 1))
+
+plain-next : (s : List ℕ) (len b x : ℕ) → length s ≡ 257 → Plain s len b → Plain (set s len b) (len + 1) x
+plain-next s len b x full p =
+    record {
+      first = λ e f. omega arith;
+      second = λ e f. let z : len ≡ 0 = omega arith in p .first z (sym (getD-set-same s 0 b 0 (omega arith)) ∙ (rw z at f));
+    }
+
+keep-byte : (s : List ℕ) (len b : ℕ) → length s ≡ 257 → len < 256 → Plain s len b → (b ≡ 10 → ⊥)
+    → _≡_ {A = Pushed} (record { tray = trayOf (set s len b) (len + 1); piece = nothing }) (pushOne (trayOf s len) b)
+keep-byte s len b full room p e = push-more s full len b e (past-below len b room) refl (plain-push s len b full room p) refl
+
+pub fill-room : {s : List ℕ} {len : ℕ} {chunk : List ℕ} {at m : ℕ} → length s ≡ 257 → len ≤ 255 → at < length chunk → (m ≤ length chunk - at) × (m ≤ 256 - len)
+    → Plain s len (getD chunk at 0) → Room s len chunk at m
+fill-room full few more least p = record { long = full; fits = omega (arith, least); some = omega (arith, least); plain = p }
+
+module _ {s : List ℕ} {len : ℕ} {chunk : List ℕ} {at most : ℕ} (r : Room s len chunk at most) where
+  pub laid-none : Laid s len chunk at most 0 s
+  laid-none =
+      let e : at + 0 ≡ at = omega arith in
+      let g : len + 0 ≡ len = omega arith in
+      record { within = omega arith; filled = fill-none s len chunk at; plain = rw (e, g) (r .plain) }
+
+  pub laid-byte : {n : ℕ} {now : List ℕ} → Laid s len chunk at most n now → n < most → (getD chunk (at + n) 0 ≡ 10 → ⊥)
+      → Laid s len chunk at most (n + 1) (set now (len + n) (getD chunk (at + n) 0))
+  laid-byte {n} {now} l more other =
+      let full : length now ≡ 257 = l .filled .long ∙ r .long in
+      let e : at + (n + 1) ≡ at + n + 1 = omega arith in
+      let g : len + (n + 1) ≡ len + n + 1 = omega arith in
+      record {
+        within = omega arith;
+        filled =
+            record {
+              few = omega arith;
+              fits = omega arith;
+              long = simp length-set (l .filled .long);
+              on =
+                  rw (e, g)
+                  (l .filled .on ∙ search-on chunk (at + n) (trayOf now (len + n)) (omega arith) (keep-byte now (len + n) (getD chunk (at + n) 0) full (omega arith) (l .plain) other) refl);
+            };
+        plain = rw (e, g) (plain-next now (len + n) (getD chunk (at + n) 0) (getD chunk (at + n + 1) 0) full (l .plain));
+      }
+
+  -- where no LF is among them
+  module _ (k : Clear chunk at most) where
+    pub laid-first : 0 < most → Laid s len chunk at most 1 (set s len (getD chunk at 0))
+    laid-first more =
+        let e : at + 0 ≡ at = omega arith in
+        let g : len + 0 ≡ len = omega arith in
+        rw (e, g) at (laid-byte laid-none more (k .none 0 more))
+
+    pub laid-next : (n : ℕ) {now : List ℕ} → n < most → Laid s len chunk at most n now → Laid s len chunk at most (n + 1) (set now (len + n) (getD chunk (at + n) 0))
+    laid-next n more l = laid-byte l more (k .none n more)
+
+  -- the room that is left
+  pub laid-room : {n m : ℕ} {t : List ℕ} → Laid s len chunk at most n t → m ≤ most - n → Room t (len + n) chunk (at + n) m
+  laid-room {n} {m} {t} l h = record { long = l .filled .long ∙ r .long; fits = omega arith; some = omega arith; plain = l .plain }
+
+  pub laid-join : {n m k : ℕ} {t u : List ℕ} → Laid s len chunk at most n t → m ≤ most - n → Laid t (len + n) chunk (at + n) m k u → Laid s len chunk at most (n + k) u
+  laid-join {n} {m} {k} {t} {u} f h g =
+      let e : at + (n + k) ≡ at + n + k = omega arith in
+      let z : len + (n + k) ≡ len + n + k = omega arith in
+      record {
+        within = omega arith;
+        filled = record { few = omega arith; fits = omega arith; long = g .filled .long ∙ f .filled .long; on = rw (e, z) (f .filled .on ∙ g .filled .on) };
+        plain = rw (e, z) (g .plain);
+      }

@@ -47,13 +47,23 @@ pub record Filled (bytes : List ℕ) (len : ℕ) (chunk : List ℕ) (at n : ℕ)
 pub record Clear (s : List ℕ) (at n : ℕ) : Type 0 where
   pub none : (k : ℕ) → k < n → getD s (at + k) 0 ≡ 10 → ⊥
 
--- n bytes with no LF can be laid, and none of them can make a prompt
-pub record Putting (bytes : List ℕ) (len : ℕ) (chunk : List ℕ) (at n : ℕ) : Type 0 where
+-- b behind the first len of the bytes is no part of a prompt, nor is any byte after it: the line's first byte is no '>', or it is too late for one
+pub record Plain (bytes : List ℕ) (len b : ℕ) : Type 0 where
+  pub first : len ≡ 0 → b ≡ 62 → ⊥
+  pub second : len ≡ 1 → getD bytes 0 0 ≡ 62 → ⊥
+
+-- n bytes of chunk from at on have room behind the first len of the bytes, and none of them can make a prompt
+pub record Room (bytes : List ℕ) (len : ℕ) (chunk : List ℕ) (at n : ℕ) : Type 0 where
   pub long : length bytes ≡ 257
-  pub two : 2 ≤ len
-  pub room : len + n ≤ 256
+  pub fits : len + n ≤ 256
   pub some : at + n ≤ length chunk
-  pub clear : Clear chunk at n
+  pub plain : Plain bytes len (getD chunk at 0)
+
+-- n bytes, of the most that had room, are held, and no prompt can come of the next either
+pub record Laid (bytes : List ℕ) (len : ℕ) (chunk : List ℕ) (at most n : ℕ) (after : List ℕ) : Type 0 where
+  pub within : n ≤ most
+  pub filled : Filled bytes len chunk at n after
+  pub plain : Plain after (len + n) (getD chunk (at + n) 0)
 
 -- r says whether a line of len bytes is past its length with b
 pub record Past (len b : ℕ) (r : Bool) : Type 0 where

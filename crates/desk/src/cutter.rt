@@ -1,13 +1,13 @@
 // Cutting a modem's bytes into lines, with no array copied.
 use text::copy;
-use text::part;
 ghost use mathlib.Core.Path.{_≡_};
+ghost use mathlib.Core.Bool.{false};
 ghost use mathlib.Core.List.{List, [], _∷_, _++_};
 ghost use Prim.Native.Nat.{ℕ, _+_, _≤_};
 ghost use lib.ListN.{length, take};
 ghost use Rattle.desk.specs.Cut.{isPrompt, cutOne};
 ghost use Rattle.desk.specs.Desk.{viewOf};
-ghost use Rattle.desk.specs.Search.{trayOf, stops, pushOne, foundAfter, Filled, Clear, Putting, Past};
+ghost use Rattle.desk.specs.Search.{trayOf, stops, pushOne, foundAfter, Filled, Clear, Plain, Room, Laid, Past};
 ghost use Rattle.desk.specs.Says.{pieceSays, pushedSays, foundSays};
 
 // The bytes of the line that is coming: line[..len] where len is at most 257. Above 257 the line is being dropped.
@@ -132,92 +132,124 @@ fn push(line: &mut [u8; 257], len: usize, b: u8) -> Pushed
     }
 }
 
-// How many of the four bytes of chunk from at on come before the first LF.
-fn four(chunk: &[u8], at: usize) -> usize
+// Whether an LF is among four bytes of chunk from at on. With no branch between them they are looked at together.
+fn ends_in_four(chunk: &[u8], at: usize) -> bool
     requires { ⌜ at + 4 ≤ length (now chunk) ⌝ }
-    ensures { λ r. ⌜ (r ≤ 4) × Clear (now (chunk .entry)) at r ⌝ }
+    ensures { λ r. ⌜ (r ≡ false → Clear (now (chunk .entry)) at 4) ⌝ }
 {
+    (chunk[at] == 10) | (chunk[at + 1] == 10) | (chunk[at + 2] == 10) | (chunk[at + 3] == 10)
+}
+
+// The same of eight.
+fn ends_in_eight(chunk: &[u8], at: usize) -> bool
+    requires { ⌜ at + 8 ≤ length (now chunk) ⌝ }
+    ensures { λ r. ⌜ (r ≡ false → Clear (now (chunk .entry)) at 8) ⌝ }
+{
+    ends_in_four(chunk, at) | ends_in_four(chunk, at + 4)
+}
+
+// Lays eight bytes of chunk from at on behind the len that are held, or none if an LF is among them, and says how many.
+// All are read before the first is laid, since this compiler is not told that line and chunk are apart.
+fn eight(line: &mut [u8; 257], len: usize, chunk: &[u8], at: usize) -> usize
+    requires { ⌜ Room (now line) len (now chunk) at 8 ⌝ }
+    ensures { λ r. ⌜ Laid (now (line .entry)) len (now (chunk .entry)) at 8 r (now (line .exit)) ⌝ }
+{
+    if ends_in_eight(chunk, at) {
+        return 0;
+    }
     let a = chunk[at];
     let b = chunk[at + 1];
     let c = chunk[at + 2];
     let d = chunk[at + 3];
-    if a == 10 {
-        return 0;
-    }
-    if b == 10 {
-        return 1;
-    }
-    if c == 10 {
-        return 2;
-    }
-    if d == 10 {
-        return 3;
-    }
-    4
+    let e = chunk[at + 4];
+    let f = chunk[at + 5];
+    let g = chunk[at + 6];
+    let h = chunk[at + 7];
+    line[len] = a;
+    line[len + 1] = b;
+    line[len + 2] = c;
+    line[len + 3] = d;
+    line[len + 4] = e;
+    line[len + 5] = f;
+    line[len + 6] = g;
+    line[len + 7] = h;
+    8
 }
 
-// How many of the most bytes of chunk from at on come before the first LF, byte by byte.
-fn scan_on(chunk: &[u8], at: usize, most: usize) -> usize
-    requires { ⌜ at + most ≤ length (now chunk) ⌝ }
-    ensures { λ r. ⌜ (r ≤ most) × Clear (now (chunk .entry)) at r ⌝ }
+// Lays the most bytes of chunk from at on, eight at a time, up to eight with an LF among them or fewer than eight, and says how many.
+fn eights(line: &mut [u8; 257], len: usize, chunk: &[u8], at: usize, most: usize) -> usize
+    requires { ⌜ Room (now line) len (now chunk) at most ⌝ }
+    ensures { λ r. ⌜ Laid (now (line .entry)) len (now (chunk .entry)) at most r (now (line .exit)) ⌝ }
 {
     let mut n = 0;
-    let clear = loop {
-        if n >= most {
-            break n;
-        }
-        if chunk[at + n] == 10 {
-            break n;
-        }
-        n += 1;
-    };
-    clear
-}
-
-// The same, four bytes at a time.
-fn scan(chunk: &[u8], at: usize, most: usize) -> usize
-    requires { ⌜ at + most ≤ length (now chunk) ⌝ }
-    ensures { λ r. ⌜ (r ≤ most) × Clear (now (chunk .entry)) at r ⌝ }
-{
-    let mut n = 0;
-    while most - n >= 4 {
-        let k = four(chunk, at + n);
+    while most - n >= 8 {
+        let k = eight(line, len + n, chunk, at + n);
         n += k;
-        if k < 4 {
+        if k < 8 {
             return n;
         }
     }
-    let rest = scan_on(chunk, at + n, most - n);
+    n
+}
+
+// The same byte by byte, up to an LF.
+fn ones(line: &mut [u8; 257], len: usize, chunk: &[u8], at: usize, most: usize) -> usize
+    requires { ⌜ Room (now line) len (now chunk) at most ⌝ }
+    ensures { λ r. ⌜ Laid (now (line .entry)) len (now (chunk .entry)) at most r (now (line .exit)) ⌝ }
+{
+    let mut n = 0;
+    while n < most {
+        let b = chunk[at + n];
+        if b == 10 {
+            return n;
+        }
+        line[len + n] = b;
+        n += 1;
+    }
+    n
+}
+
+// Both: up to an LF or to the most.
+fn run(line: &mut [u8; 257], len: usize, chunk: &[u8], at: usize, most: usize) -> usize
+    requires { ⌜ Room (now line) len (now chunk) at most ⌝ }
+    ensures { λ r. ⌜ Laid (now (line .entry)) len (now (chunk .entry)) at most r (now (line .exit)) ⌝ }
+{
+    let n = eights(line, len, chunk, at, most);
+    let rest = ones(line, len + n, chunk, at + n, most - n);
     n + rest
 }
 
-// Lays n bytes of chunk from at on, none of them an LF, behind the len that are held.
-fn put(line: &mut [u8; 257], len: usize, chunk: &[u8], at: usize, n: usize)
-    requires { ⌜ Putting (now line) len (now chunk) at n ⌝ }
-    ensures { λ _. ⌜ Filled (now (line .entry)) len (now (chunk .entry)) at n (now (line .exit)) ⌝ }
+// Whether b may be part of a prompt: it or the one byte that is held is '>'.
+fn may_prompt(line: &[u8; 257], len: usize, b: u8) -> bool
+    requires { ⌜ length (now line) ≡ 257 ⌝ }
+    ensures { λ r. ⌜ (r ≡ false → Plain (now (line .entry)) len b) ⌝ }
 {
-    let _end = copy::lay(part::part(chunk, at, at + n), len, line);
+    if len == 0 {
+        return b == 62;
+    }
+    if len == 1 {
+        return line[0] == 62;
+    }
+    false
 }
 
 // Lays the bytes of chunk from at on behind the len that are held, up to an LF, the 256th byte or the chunk's end, and says how many.
-// None where fewer than 2 are held, since the second byte may make a prompt.
+// None where a prompt may come of them: its bytes go one by one.
 fn fill(line: &mut [u8; 257], len: usize, chunk: &[u8], at: usize) -> usize
     requires { ⌜ length (now line) ≡ 257 ⌝ }
     ensures { λ r. ⌜ Filled (now (line .entry)) len (now (chunk .entry)) at r (now (line .exit)) ⌝ }
 {
-    if len < 2 {
-        return 0;
-    }
     if len > 255 {
         return 0;
     }
     if at >= chunk.len() {
         return 0;
     }
+    if may_prompt(line, len, chunk[at]) {
+        return 0;
+    }
     let most = copy::least(chunk.len() - at, 256 - len);
-    let n = scan(chunk, at, most);
-    put(line, len, chunk, at, n);
-    n
+    run(line, len, chunk, at, most)
 }
 
 // The count of a slice. Of an array behind a reference no contract knows the length; lent as a slice it is known.

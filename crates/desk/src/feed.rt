@@ -9,6 +9,7 @@ use crate::judge;
 use crate::ordinal;
 use text::copy;
 use text::part;
+use trial::straight;
 ghost use Prim.Native.Nat.{ℕ, suc, _≤_};
 ghost use lib.ListN.{length};
 ghost use Rattle.desk.specs.Lines.{lineOf};
@@ -64,7 +65,7 @@ fn rule_line(command: Command, sent: &[u8], echo: usize, line: &[u8]) -> LineRul
 {
     let size = echo::size_of(sent, echo);
     if size == 0 {
-        let sort = trial::sort_of(line);
+        let sort = straight::sort_of(line);
         let j = judge::judge(command, sort);
         let after = j.command;
         let event = j.event;
@@ -81,7 +82,7 @@ fn rule_line(command: Command, sent: &[u8], echo: usize, line: &[u8]) -> LineRul
             event: Event::Echo,
         };
     }
-    let sort = trial::sort_of(line);
+    let sort = straight::sort_of(line);
     let j = judge::judge(Command::Idle, sort);
     let event = j.event;
     LineRuled {

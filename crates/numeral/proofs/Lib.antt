@@ -1,4 +1,5 @@
 pub mod Closest
+pub mod Counting
 pub mod DigitLoop
 pub mod Digits
 pub mod Examples

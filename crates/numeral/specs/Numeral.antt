@@ -9,7 +9,7 @@ use lib.Ieee.{Float, binary32, round}
 use Rattle.text.specs.Bytes.{bytes, within, startsWith}
 use Rattle.text.specs.Part.{before, after}
 use Rattle.text.specs.Number.{digitsOf, valueOf}
-use Rattle.text.specs.Reading.{Reading, read, need}
+use Rattle.text.specs.Reading.{Reading, read, need, present}
 
 -- an exact decimal: number / 10 ^ places, or its negation
 pub record Decimal : Type 0 where
@@ -51,3 +51,7 @@ floatOf s = rounded (decimalOf s)
 -- which is refused with 3
 unfoldable pub numeralText : List ℕ → Reading Float
 numeralText s = need (floatOf s) read
+
+-- whether a text is read as an f32
+unfoldable pub isNumeral : List ℕ → Bool
+isNumeral s = present (floatOf s)

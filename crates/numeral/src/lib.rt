@@ -1,5 +1,6 @@
 // A desk numeral, read as the nearest f32. The quotient of its digits by a power of ten is formed in whole numbers: the counts of leading
 // zero bits of the two fix the exponent, two divisions give 24 binary digits, and the remainder rounds them.
+use text::bytes;
 use text::digit;
 ghost use mathlib.Core.Path.{_≡_};
 ghost use mathlib.Core.Bool.{Bool, cond};
@@ -8,7 +9,9 @@ ghost use lib.Ieee as Ieee;
 ghost use lib.Ieee.{binary32};
 ghost use lib.Ieee.Nearest.{closest};
 ghost use lib.ListN.{length, drop};
-ghost use Rattle.numeral.specs.Numeral.{behindSign, decimalOf};
+ghost use Rattle.text.specs.Gives.{Gives};
+ghost use Rattle.text.specs.Reading.{present};
+ghost use Rattle.numeral.specs.Numeral.{unsigned, behindSign, decimalOf, isNumeral};
 ghost use Rattle.numeral.specs.Place.{Placed};
 ghost use Rattle.numeral.specs.says.Numeral.{scannedSays, NumeralKeeps};
 
@@ -188,4 +191,36 @@ pub fn read(s: &[u8]) -> Numeral
         } => Numeral::Value(nearest(negative, number, places)),
         Scanned::Not => Numeral::Refused,
     }
+}
+
+// Where the digits begin: behind the sign, if there is one.
+fn start_of(s: &[u8]) -> usize
+    ensures { λ r. ⌜ (drop r (now (s .entry)) ≡ unsigned (now (s .entry))) × (r ≤ length (now (s .entry))) ⌝ }
+{
+    let first = bytes::byte_at(s, 0);
+    ((first == b'-') | (first == b'+')) as usize
+}
+
+// Whether the bytes from `start` on are one to fifteen digits and at most one point. They are counted with no branch on them.
+fn is_counted(s: &[u8], start: usize) -> bool
+    requires { ⌜ start ≤ length (now s) ⌝ }
+    ensures { λ r. ⌜ ((negative : Bool) → r ≡ present (behindSign negative (drop start (now (s .entry))))) ⌝ }
+{
+    let mut digits = 0;
+    let mut points = 0;
+    let mut i = start;
+    while i < s.len() {
+        let c = s[i];
+        digits += digit::is_ascii_digit(c) as usize;
+        points += (c == b'.') as usize;
+        i += 1;
+    }
+    (digits + points == s.len() - start) & (points <= 1) & (1 <= digits) & (digits <= 15)
+}
+
+// Whether `read` would give a value: every decimal has a nearest f32, so nothing need be rounded, and no number is made.
+pub fn is_numeral(s: &[u8]) -> bool
+    ensures { λ r. ⌜ Gives (isNumeral (now (s .entry))) r ⌝ }
+{
+    is_counted(s, start_of(s))
 }

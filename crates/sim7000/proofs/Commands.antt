@@ -2,26 +2,10 @@
 use Prim.Native.Nat.{ℕ, _-_, _/_, _%_, _≤_, _<_}
 use mathlib.Core.Path.{_≡_}
 use mathlib.Core.List.{[], _∷_}
-use native.Mathlib.Omega.{arith}
 use borrow.Author.Tests.{eq-eqb, ne-eqb, lt-ltb, le-ltb}
-use Rattle.at_command.specs.Kind.{Kind, genericOk, simError, writePrompt, closeOk, iccid, signalQuality, systemInfo, operatorInfo, networkTime, downloadInfo, imei, smsMessageFormat, smsMessage, placeOf, kindAt}
+use Rattle.at_command.specs.Kind.{Kind, kindAt}
 use Rattle.desk.specs.Judge.{awaiting}
 use Rattle.sim7000.specs.Parts.{awaitedIn}
-
-pub place-few : (k : Kind) → placeOf k < 13
-place-few genericOk = omega arith
-place-few simError = omega arith
-place-few writePrompt = omega arith
-place-few closeOk = omega arith
-place-few iccid = omega arith
-place-few signalQuality = omega arith
-place-few systemInfo = omega arith
-place-few operatorInfo = omega arith
-place-few networkTime = omega arith
-place-few downloadInfo = omega arith
-place-few imei = omega arith
-place-few smsMessageFormat = omega arith
-place-few smsMessage = omega arith
 
 module _ (n : ℕ) where
   pub awaited-none : n ≡ 0 → awaiting [] ≡ awaiting (awaitedIn n)

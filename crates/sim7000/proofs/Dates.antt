@@ -15,7 +15,7 @@ use Rattle.trial.proofs.Order.{refusal-some, said-dated, said-13}
 use Rattle.sim7000.specs.Dates.{DateHanded, DatesExported}
 use Rattle.sim7000.specs.Reader.{sortNumber}
 use Rattle.sim7000.specs.Values.{ReadLeft, readLeft, handedOver}
-use Rattle.sim7000.proofs.Commands.{place-few}
+use Rattle.at_command.proofs.KindPlaces.{place-few}
 
 module _ (line : List ℕ) where
   date-handed : (s : Reading Said) → lineSaid line ≡ s → (before after : List ℕ) → readLeft 0 after ≡ handedOver s before → getD after 0 0 ≡ 14 → getD after 1 0 ≡ 2 → DateHanded line after

@@ -7,7 +7,7 @@ use native.Mathlib.Omega.{arith}
 use lib.Dec.{ltb, eqb}
 use lib.ListN.{length, getD}
 use Rattle.at_command.specs.Kind.{Kind, genericOk, simError, writePrompt, closeOk, iccid, signalQuality, systemInfo, operatorInfo, networkTime, downloadInfo, imei, smsMessageFormat, smsMessage, placeOf, kindAt}
-use Rattle.at_command.proofs.KindPlaces.{at-place}
+use Rattle.at_command.proofs.KindPlaces.{at-place, place-few}
 use Rattle.text.specs.Copy.{least}
 use Rattle.desk.specs.Judge.{Command}
 use Rattle.desk.specs.Ordinal.{capped}
@@ -17,7 +17,7 @@ use Rattle.desk.proofs.Feeding.{fed-command}
 use Rattle.desk.proofs.Lives.{fed-few}
 use Rattle.desk.proofs.Unchanged.{fed-sent}
 use Rattle.sim7000.specs.Parts.{awaitedIn, numberOf, deskIn, numbersOf, resets}
-use Rattle.sim7000.proofs.Commands.{place-few, awaited-two}
+use Rattle.sim7000.proofs.Commands.{awaited-two}
 
 -- a reset of the numbers is a reset of the desk
 pub reset-says : (line state sent : List ℕ) → deskIn line (resets state) sent ≡ resetState (deskIn line state sent)

@@ -1,4 +1,5 @@
 pub mod Commands
+pub mod Takers
 pub mod OneLine
 pub mod Rows
 pub mod Feeding

@@ -3,33 +3,10 @@ use at_command::request::ResponseKind;
 use desk::Command;
 ghost use mathlib.Core.Path.{_≡_};
 ghost use Prim.Native.Nat.{_<_};
-ghost use Rattle.at_command.specs.says.Request.{kindSays};
-ghost use Rattle.at_command.specs.Kind.{kindAt};
 ghost use Rattle.desk.specs.Judge.{awaiting};
 ghost use Rattle.desk.specs.Ordinal.{capped};
 ghost use Rattle.desk.specs.Says.{commandSays};
 ghost use Rattle.sim7000.specs.Parts.{awaitedIn, numberOf};
-
-fn kind_at(k: u64) -> ResponseKind
-    requires { ⌜ k < 13 ⌝ }
-    ensures { λ r. ⌜ kindSays r ≡ kindAt k ⌝ }
-{
-    match k {
-        0 => ResponseKind::GenericOk,
-        1 => ResponseKind::SimError,
-        2 => ResponseKind::WritePrompt,
-        3 => ResponseKind::CloseOk,
-        4 => ResponseKind::Iccid,
-        5 => ResponseKind::SignalQuality,
-        6 => ResponseKind::SystemInfo,
-        7 => ResponseKind::OperatorInfo,
-        8 => ResponseKind::NetworkTime,
-        9 => ResponseKind::DownloadInfo,
-        10 => ResponseKind::Imei,
-        11 => ResponseKind::SmsMessageFormat,
-        _ => ResponseKind::SmsMessage,
-    }
-}
 
 pub(crate) fn command_in(n: u64) -> Command
     ensures { λ r. ⌜ commandSays r ≡ awaiting (awaitedIn n) ⌝ }
@@ -38,11 +15,11 @@ pub(crate) fn command_in(n: u64) -> Command
         return Command::Idle;
     }
     if n < 14 {
-        return Command::One(kind_at(n - 1));
+        return Command::One(ResponseKind::at(n - 1));
     }
     if n < 183 {
         let m = n - 14;
-        return Command::Two(kind_at(m / 13), kind_at(m % 13));
+        return Command::Two(ResponseKind::at(m / 13), ResponseKind::at(m % 13));
     }
     Command::Idle
 }

@@ -1,27 +1,17 @@
 // A line is read: which reader takes it, and what it says.
 use crate::values;
 use trial::Line;
-use unsolicited::Urc;
-ghost use mathlib.Core.Path.{_≡_};
-ghost use Rattle.unsolicited.specs.says.Urc.{urcSays};
-ghost use Rattle.sim7000.specs.Reader.{urcReader, SortLineKeeps};
+use trial::Taker;
+use trial::straight;
+ghost use Rattle.sim7000.specs.Reader.{SortLineKeeps};
 ghost use Rattle.sim7000.specs.Values.{ReadLineKeeps};
-
-fn urc_reader(urc: Urc) -> u8
-    ensures { λ r. ⌜ r ≡ urcReader (urcSays urc) ⌝ }
-{
-    match urc {
-        Urc::GnssReport(_) => 14,
-        Urc::NetworkRegistration(_) => 15,
-    }
-}
 
 // 0, and the reader's number and values in `values`; or the refusal, and `values` as it was.
 #[no_mangle]
 pub extern "C" fn sim7000_read_line(line: &[u8], values: &mut [u64; 20]) -> u8
     ensures { λ r. ⌜ ReadLineKeeps (now (line .entry)) (now (values .entry)) r (now (values .exit)) ⌝ }
 {
-    let said = Line::from_line(line);
+    let said = straight::said(line);
     match said {
         Line::Response(code) => {
             *values = values::response_values(code);
@@ -40,13 +30,11 @@ pub extern "C" fn sim7000_read_line(line: &[u8], values: &mut [u64; 20]) -> u8
 pub extern "C" fn sim7000_sort_line(line: &[u8]) -> u8
     ensures { λ r. ⌜ SortLineKeeps (now (line .entry)) r ⌝ }
 {
-    let said = Line::from_line(line);
-    match said {
-        Line::Response(code) => {
-            let kind = code.kind();
-            kind.place() + 1
-        }
-        Line::Unsolicited(urc) => urc_reader(urc),
-        Line::Refused(k) => 128 + k,
+    let taker = straight::taker(line);
+    match taker {
+        Taker::Response(kind) => kind.place() + 1,
+        Taker::GnssReport => 14,
+        Taker::NetworkRegistration => 15,
+        Taker::Refused(k) => 128 + k,
     }
 }

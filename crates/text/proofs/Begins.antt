@@ -2,10 +2,10 @@
 use mathlib.Core.Path.{_≡_, refl, ap, sym, subst, _∙_}
 use mathlib.Core.Bool.{Bool, true, _&&_}
 use mathlib.Core.List.{List, [], _∷_, _++_, append-nil}
-use Prim.Native.Nat.{ℕ, _≤_}
+use Prim.Native.Nat.{ℕ, zero, suc, _≤_}
 use native.Mathlib.Omega.{arith}
 use lib.Dec.{eqb}
-use lib.ListN.{length, drop, length-append, drop-of-length-le}
+use lib.ListN.{length, take, drop, length-append, drop-of-length-le}
 use borrow.Author.Tests.{eqb-true}
 use Rattle.text.specs.Bytes.{startsWith, same}
 use Rattle.text.proofs.Tests.{never, and-left, and-right}
@@ -22,6 +22,14 @@ begins-split (b ∷ p) (x ∷ s) e =
 -- what holds of the text with anything behind it holds of the line
 pub begins-with : (P : List ℕ → Type 0) (p s : List ℕ) → ((t : List ℕ) → P (p ++ t)) → startsWith p s ≡ true → P s
 begins-with P p s f e = subst P (sym (begins-split p s e)) (f (drop (length p) s))
+
+-- a front part that begins so is of a line that does
+pub begins-take : (p : List ℕ) (n : ℕ) (s : List ℕ) → startsWith p (take n s) ≡ true → startsWith p s ≡ true
+unfolding startsWith
+begins-take [] n s e = refl
+begins-take (b ∷ p) zero s e = never (cc)
+begins-take (b ∷ p) (suc n) [] e = never (cc)
+begins-take (b ∷ p) (suc n) (x ∷ s) e = rw (and-left (eqb x b) _ e) (begins-take p n s (and-right (eqb x b) _ e))
 
 pub begins-same : (p s : List ℕ) → same s p ≡ true → startsWith p s ≡ true
 unfolding same

@@ -2,11 +2,13 @@
 use mathlib.Core.Path.{_≡_, refl, sym, _∙_}
 use mathlib.Core.Bool.{Bool, true, false, not, and-false}
 use mathlib.Core.List.{List, [], _∷_}
-use Prim.Native.Nat.{ℕ, suc, _+_, _-_, _≤_, _<_}
+use Prim.Native.Nat.{ℕ, suc, _+_, _-_, _^_, _≤_, _<_}
 use native.Mathlib.Nat.{add-zero}
 use native.Mathlib.Omega.{arith}
 use lib.ListN.{length, getD, drop, length-drop}
 use lib.Dec.{eqb, ltb}
+use mir.Syntax.{w8, w64}
+use mir.Val.{Fits, boolByte}
 use borrow.Author.Tests.{eq-eqb, ne-eqb, lt-leb, le-leb, not-true, not-false}
 use Rattle.text.specs.Bytes.{startsWith, same, endsWith, indexOf, countOf, has, within, allWithin}
 use Rattle.text.proofs.AtIndex.{at-next, at-end}
@@ -32,17 +34,26 @@ pub has-is : (s : List ℕ) (b e : ℕ) → e ≡ 0 + indexOf b s → ltb e (len
 unfolding has
 has-is s b e q = let z : e ≡ indexOf b s = omega arith in rw z
 
--- `count_byte`
+-- `count_byte` and `count_few`
 module _ (s : List ℕ) (b i n : ℕ) (inv : n + countOf b (drop i s) ≡ countOf b s) where
-  pub count-hit : i < length s → getD s i 0 ≡ b → (n + 1) + countOf b (drop (i + 1) s) ≡ countOf b s
-  count-hit h e =
-      let z : countOf b (drop i s) ≡ 1 + countOf b (drop (i + 1) s) = rw (at-next s i h, eq-eqb _ _ e) in
-      omega arith
+  pub count-fits : n ≤ i → i < length s → length s < 2 ^ 64 → (t : Bool) → Fits w64 (n + boolByte t)
+  count-fits l h m true = record { fits = omega arith }
+  count-fits l h m false = record { fits = omega arith }
 
-  pub count-miss : i < length s → (getD s i 0 ≡ b → ⊥) → n + countOf b (drop (i + 1) s) ≡ countOf b s
-  count-miss h e =
-      let z : countOf b (drop i s) ≡ 0 + countOf b (drop (i + 1) s) = rw (at-next s i h, ne-eqb _ _ e) in
-      omega arith
+  pub few-fits : n ≤ i → i < length s → length s < 256 → (t : Bool) → Fits w8 (n + boolByte t)
+  few-fits l h m true = record { fits = omega arith }
+  few-fits l h m false = record { fits = omega arith }
+
+  pub count-few : n ≤ i → (t : Bool) → n + boolByte t ≤ i + 1
+  count-few l true = omega arith
+  count-few l false = omega arith
+
+  pub count-more : i < length s → n + boolByte (eqb (getD s i 0) b) + countOf b (drop (i + 1) s) ≡ countOf b s
+  count-more h = go (eqb (getD s i 0) b) refl
+    where
+      go : (t : Bool) → eqb (getD s i 0) b ≡ t → n + boolByte t + countOf b (drop (i + 1) s) ≡ countOf b s
+      go true e = let z : countOf b (drop i s) ≡ 1 + countOf b (drop (i + 1) s) = rw (at-next s i h, e) in omega arith
+      go false e = let z : countOf b (drop i s) ≡ 0 + countOf b (drop (i + 1) s) = rw (at-next s i h, e) in omega arith
 
   pub count-end : length s ≤ i → n ≡ countOf b s
   count-end h = let z : countOf b (drop i s) ≡ 0 = rw (at-end s i h) in omega arith

@@ -3,16 +3,20 @@ pub mod Ascii
 pub mod AtIndex
 pub mod Begins
 pub mod Below
+pub mod Classes
 pub mod Codes
+pub mod Conditions
 pub mod Copying
 pub mod Digits
 pub mod Fields
 pub mod Finding
 pub mod HandedLaws
 pub mod LineLaws
+pub mod NoNumbers
 pub mod NumberExamples
 pub mod Numbers
 pub mod One
+pub mod OneClass
 pub mod OneNumber
 pub mod Parts
 pub mod ReaderPlaces
@@ -26,5 +30,6 @@ pub mod Trims
 pub mod Utf8Cuts
 pub mod Utf8Grammar
 pub mod Utf8Laws
+pub mod Utf8Walk
 pub mod Walk
 pub mod Yields

@@ -1,17 +1,18 @@
 -- The steps of a reader: what the code tested, and what it learnt of a call, picks the case of its paper definition. Each premise is spelled
 -- as the code's test or the callee's promise has it, so that `search reader` closes a reader's answers. Assumes nothing.
 use mathlib.Core.Path.{_≡_, refl, ap, sym, _∙_, subst}
-use mathlib.Core.Bool.{Bool, true, false, cond, not, _||_}
+use mathlib.Core.Bool.{Bool, true, false, cond, not}
 use mathlib.Core.List.{List, [], _∷_}
 use mathlib.Core.Option.{Option, none, some}
 use Prim.Native.Nat.{ℕ, _≤_, _<_}
 use lib.Dec.{eqb, leb}
 use lib.ListN.{length}
 use borrow.Author.Tests.{eq-eqb, ne-eqb, eqb-true, le-leb, lt-leb, not-true, not-false}
+use Rattle.text.proofs.Tests.{never}
 use Rattle.text.specs.Bytes.{same, has}
 use Rattle.text.specs.Part.{before, after, trimmed}
 use Rattle.text.specs.Field.{fields, nth}
-use Rattle.text.specs.Reading.{Reading, read, refused, only, either, need, needElse, sized, fitting, mapped, each, worse, firstOf}
+use Rattle.text.specs.Reading.{Reading, read, refused, refusalIn, present, only, either, need, needElse, sized, fitting, mapped, each, worse, firstOf}
 
 module _ {A : Type 0} where
   pub only-not : (t x : Bool) (r : Reading A) → x ≡ t → x ≡ false → refused 3 ≡ only t r
@@ -63,20 +64,6 @@ module _ {A : Type 0} where
     pub only-under : (r : Reading A) → k ≡ c → k < n → refused 3 ≡ only (leb n c) r
     only-under r e h = only-not (leb n c) false r (sym (lt-leb n c (subst (λ (m : ℕ). m < n) e h))) refl
 
-  -- a test that is known: the count is among those listed, or not
-  module _ (t : Bool) where
-    pub listed : (r u q : Reading A) → true ≡ t → q ≡ r → q ≡ either t r u
-    listed r u q e = either-so t true r u q e refl
-
-    pub unlisted : (r u q : Reading A) → false ≡ t → q ≡ u → q ≡ either t r u
-    unlisted r u q e = either-not t false r u q e refl
-
-    pub only-listed : (r q : Reading A) → true ≡ t → q ≡ r → q ≡ only t r
-    only-listed r q e = only-so t true r q e refl
-
-    pub only-unlisted : (r : Reading A) → false ≡ t → refused 3 ≡ only t r
-    only-unlisted r e = only-not t false r e refl
-
   -- a text of some length, which the code has under the name t
   module _ (lo hi : ℕ) (t s : List ℕ) (r : Reading A) where
     pub sized-so : (q : Reading A) → t ≡ s → lo ≤ length t → length t ≤ hi → q ≡ r → q ≡ sized lo hi s r
@@ -100,16 +87,6 @@ module _ {A : Type 0} where
     pub too-long : t ≡ s → n < length t → refused 4 ≡ fitting n s r
     unfolding fitting
     too-long e h = rw (sym e, lt-leb _ _ h)
-
--- a count that the code has under the name k is among so many
-module _ (k c n : ℕ) (e : k ≡ c) where
-  pub listed-here : (t : Bool) → k ≡ n → true ≡ eqb c n || t
-  listed-here t h = rw (eq-eqb c n (sym e ∙ h))
-
-  pub listed-later : (x t : Bool) → (k ≡ n → ⊥) → x ≡ t → x ≡ eqb c n || t
-  listed-later x t h p = rw (ne-eqb c n (λ z. h (e ∙ z))) p
-
-pub ruleset counted = (listed-here, listed-later, listed, unlisted, only-listed, only-unlisted)
 
 module _ {A B : Type 0} where
   pub need-not : (k : ℕ) (o : Option A) (f : A → Reading B) → none ≡ o → refused k ≡ needElse k o f
@@ -160,6 +137,35 @@ via f q t s e h = e ∙ ap f h
 pub ruleset reader =
     (only-so, only-not, either-so, either-not, unless-so, unless-not, otherwise-so, otherwise-not, either-is, either-else, only-is, only-else, only-least, only-under, sized-so, sized-low, sized-high, fits, too-long, same-via, has-via, before-via, after-via, count-via, field-via, trim-via)
 
+-- a reading with its value forgotten: what the code learnt picks the case of the reading, and with it the number
+module _ {A : Type 0} (r : Reading A) where
+  pub refuses : (k : ℕ) → refused k ≡ r → k ≡ refusalIn r
+  refuses k e = ap refusalIn e
+
+  pub accepts : (a : A) → read a ≡ r → 0 ≡ refusalIn r
+  accepts a e = ap refusalIn e
+
+  pub sorts : (k : ℕ) (q : Reading A) → k ≡ refusalIn q → q ≡ r → k ≡ refusalIn r
+  sorts k q h e = h ∙ ap refusalIn e
+
+-- a value that is asked for, where the code knows whether it is there
+module _ {A : Type 0} (o : Option A) where
+  pub there : (a : A) → some a ≡ o → true ≡ present o
+  there a e = ap present e
+
+  pub missing : none ≡ o → false ≡ present o
+  missing e = ap present e
+
+pub not-there : {A : Type 0} (o : Option A) → present o ≡ false → none ≡ o
+not-there none e = refl
+not-there (some a) e = never (cc)
+
+-- which is enough, where what follows has one refusal for each
+pub refusal-need : {A B : Type 0} (k j : ℕ) (o : Option A) (f : A → Reading B) → ((a : A) → j ≡ refusalIn (f a)) → cond (present o) j k ≡ refusalIn (needElse k o f)
+unfolding needElse
+refusal-need k j none f h = refl
+refusal-need k j (some a) f h = h a
+
 -- a reading under another name
 module _ {A B : Type 0} (g : A → B) (x : Reading A) where
   pub mapped-read : (a : A) → read a ≡ x → read (g a) ≡ mapped g x
@@ -204,7 +210,7 @@ worse-assoc j k i = go (eqb j 3) refl
     go true e = refl
     go false e = rw e
 
-worse-three : (j : ℕ) → worse j 3 ≡ j
+pub worse-three : (j : ℕ) → worse j 3 ≡ j
 worse-three j = go (eqb j 3) (eqb-true j 3)
   where
     go : (t : Bool) → (t ≡ true → j ≡ 3) → cond t 3 j ≡ j

@@ -1,6 +1,6 @@
 -- Bytes that go at the ends of a line. Assumes nothing.
 use mathlib.Core.Path.{_≡_, refl, ap, sym, _∙_}
-use mathlib.Core.Bool.{Bool, true, false, cond, _||_, or-self-left}
+use mathlib.Core.Bool.{Bool, true, false, cond, or-self-left}
 use mathlib.Core.List.{List, [], _∷_, _++_}
 use Prim.Native.Nat.{ℕ, suc, _+_, _-_, _≤_, _<_}
 use native.Mathlib.Omega.{arith}
@@ -48,6 +48,12 @@ take-next : (s : List ℕ) (e : ℕ) → 0 < e → e ≤ length s → take e s �
 take-next s e h k =
     let z : e ≡ suc (e - 1) = omega arith in
     ap (λ (n : ℕ). take n s) z ∙ take-suc s (e - 1) 0 (omega arith)
+
+-- nothing goes where the last byte stays
+pub end-kept : (bs s : List ℕ) → 0 < length s → among bs (getD s (length s - 1) 0) ≡ false → trimEnd bs s ≡ s
+end-kept bs s h e =
+    let z : s ≡ take (length s - 1) s ++ getD s (length s - 1) 0 ∷ [] = sym (take-length s) ∙ take-next s (length s) h (omega arith) in
+    ap (trimEnd bs) z ∙ stays bs (take (length s - 1) s) _ e ∙ sym z
 
 -- `end_of`
 pub end-begin : (s : List ℕ) (a b : ℕ) → trimEnd (a ∷ b ∷ []) s ≡ trimEnd (a ∷ b ∷ []) (take (length s) s)

@@ -1,19 +1,20 @@
 -- A part that ends inside a character ends with a byte that is no digit, so it is no number.
-use mathlib.Core.Path.{_≡_, refl}
-use mathlib.Core.Bool.{Bool, true, false, cond, _&&_, _||_}
+use mathlib.Core.Path.{_≡_, refl, ap, sym}
+use mathlib.Core.Bool.{Bool, true, false, _||_}
 use mathlib.Core.List.{List, [], _∷_, _++_}
-use mathlib.Core.Option.{Option, none, some}
+use mathlib.Core.Option.{none}
 use Prim.Native.Nat.{ℕ, zero, suc, _+_, _-_, _≤_, _<_}
 use native.Mathlib.Omega.{arith}
-use lib.Dec.{eqb, leb}
+use lib.Dec.{leb}
 use lib.ListN.{length, take, drop, getD, length-append, length-drop, List·getD-append}
 use lib.Seq.{getD-take, getD-drop, getD-append-add, length-take-le}
-use borrow.Author.Tests.{leb-true, eqb-true}
-use Rattle.text.specs.Bytes.{within, startsWith}
+use borrow.Author.Tests.{leb-true}
+use Rattle.text.specs.Bytes.{within}
 use Rattle.text.specs.Part.{partOf}
-use Rattle.text.specs.Number.{digitValue, below, prefixed, digitsOf, worth, magnitude, unsigned}
+use Rattle.text.specs.Number.{digitValue, below, unsigned}
 use Rattle.text.specs.Utf8.{Range, fits, Character, Inside}
 use Rattle.text.proofs.Digits.{off-range, no-digit}
+use Rattle.text.proofs.NoNumbers.{no-number}
 use Rattle.text.proofs.Tests.{and-left, and-right, at-least}
 use Rattle.text.proofs.Utf8Laws.{fits-length}
 use Rattle.text.proofs.Utf8Grammar.{every, every-at}
@@ -55,32 +56,15 @@ module _ (s : List ℕ) (at : ℕ) (i : Inside s at) where
       let l : m < length (i .character) = omega (arith, i .behind-first, i .before-end) in
       rw (i .text, z, getD-append-add, List·getD-append (i .character) (i .back) 0 m l) (wide-above (i .character) (i .is) (omega (arith, i .behind-first, i .before-end)) m l)
 
--- a text with a byte above ASCII is no number
-prefixed-none : (o : Option ℕ) → prefixed o none ≡ none
-prefixed-none none = refl
-prefixed-none (some d) = refl
+-- so the part is no number: that byte is no digit
+above-no : (base x : ℕ) → 0x80 ≤ x → below base (digitValue x) ≡ none
+above-no base x b = ap (below base) (sym (no-digit x (off-range x 48 57 (λ l k. omega arith)) (λ l k. omega arith) (λ l k. omega arith)))
 
-no-digits : (base : ℕ) (s : List ℕ) (n : ℕ) → n < length s → 0x80 ≤ getD s n 0 → digitsOf base s ≡ none
-unfolding digitsOf
-no-digits base [] n h b = absurd (omega arith)
-no-digits base (x ∷ s) zero h b = rw (← no-digit x (off-range x 48 57 (λ l k. omega arith)) (λ l k. omega arith) (λ l k. omega arith))
-no-digits base (x ∷ s) (suc n) h b = rw (no-digits base s n (omega arith) b) (prefixed-none (below base (digitValue x)))
-
-no-number : (base max : ℕ) (s : List ℕ) (n : ℕ) → n < length s → 0x80 ≤ getD s n 0 → unsigned base max s ≡ none
-unfolding unsigned magnitude startsWith
-no-number base max [] n h b = absurd (omega arith)
-no-number base max (x ∷ s) n h b = go (eqb x 43) (eqb-true x 43) n h b
-  where
-    go : (t : Bool) → (t ≡ true → x ≡ 43) → (n : ℕ) → n < length (x ∷ s) → 0x80 ≤ getD (x ∷ s) n 0 → cond (t && true) (worth base max (digitsOf base s)) (worth base max (digitsOf base (x ∷ s))) ≡ none
-    go true e zero h b = absurd (omega (arith, e refl))
-    go true e (suc n) h b = rw (no-digits base s n (omega arith) b)
-    go false e n h b = rw (no-digits base (x ∷ s) n h b)
-
--- nor is a part that ends inside a character
 pub ends-inside : (base max : ℕ) (s : List ℕ) (a at : ℕ) → a < at → Inside s at → unsigned base max (partOf s a at) ≡ none
 unfolding partOf
 ends-inside base max s a at h i =
     let n = at - 1 - a in
     let e : length (take (at - a) (drop a s)) ≡ at - a = length-take-le (at - a) (drop a s) (omega (arith, length-drop a s, in-text s at i)) in
     let z : a + n ≡ at - 1 = omega arith in
-    no-number base max (take (at - a) (drop a s)) n (omega arith) (rw (getD-take (at - a) (drop a s) n 0 (omega arith), getD-drop, z) (above-at s at i))
+    let b : 0x80 ≤ getD (take (at - a) (drop a s)) n 0 = rw (getD-take (at - a) (drop a s) n 0 (omega arith), getD-drop, z) (above-at s at i) in
+    no-number base max (take (at - a) (drop a s)) n (omega arith) (above-no base _ b) (λ z e. omega arith)

@@ -1,20 +1,18 @@
--- UTF-8: the test goes from character to character, and what the functions of src/utf8.rt give at each step.
+-- UTF-8: the test goes from character to character, what the lead bytes of the rows ask for, and the bytes that are passed as ASCII; the walk by bytes is Utf8Walk.antt.
 use mathlib.Core.Path.{_≡_, refl, ap, sym, _∙_, subst}
 use mathlib.Core.Bool.{Bool, true, false, cond, _&&_, _||_, not, false≢true, and-false}
 use mathlib.Core.List.{List, [], _∷_}
 use Prim.Native.Nat.{ℕ, zero, suc, _+_, _-_, _*_, _^_, _≤_, _<_}
-use native.Mathlib.Nat.{add-zero, sub-zero, eq-of-mul-eq-mul-right}
+use native.Mathlib.Nat.{add-zero, eq-of-mul-eq-mul-right}
 use native.Mathlib.Omega.{arith}
 use lib.Bits.{bitAnd, and-block}
 use lib.Dec.{T, eqb, leb, ltb, ltb→lt}
-use lib.ListN.{length, getD, take, drop, replicate, length-drop, length-take, length-replicate, drop-of-length-le}
+use lib.ListN.{length, getD, take, drop, length-drop}
 use lib.Seq.{drop-drop}
 use lib.Pow.{pow-pos}
 use borrow.Author.Tests.{ne-eqb, ltb-true, ltb-false, le-leb, lt-leb, leb-true}
-use mir.Val.{Fits}
-use mir.Syntax.{w64}
 use Rattle.text.specs.Bytes.{within}
-use Rattle.text.specs.Utf8.{Range, to, tail, rows, fits, sizeBy, charSize, behind, utf8, AsciiIn}
+use Rattle.text.specs.Utf8.{Range, rows, fits, sizeBy, charSize, behind, utf8, AsciiIn}
 use Rattle.text.proofs.AtIndex.{at-next}
 use Rattle.text.proofs.Below.{below}
 use Rattle.text.proofs.Tests.{and-left, and-right}
@@ -65,65 +63,6 @@ pub utf8-not : (s : List ℕ) → charSize s ≡ 0 → (length s ≡ 0 → ⊥) 
 unfolding utf8
 utf8-not s e h = rw (stuck (length s) s e) (ne-eqb (length s) 0 h)
 
--- `all_tails`
-pub tails-start : (s : List ℕ) (a n : ℕ) → fits (replicate n tail) (take n (drop a s)) ≡ fits (replicate (n - 0) tail) (take (n - 0) (drop (a + 0) s))
-tails-start s a n = rw (sub-zero n, add-zero a)
-
-module _ (s : List ℕ) (a n k : ℕ) (inv : fits (replicate n tail) (take n (drop a s)) ≡ fits (replicate (n - k) tail) (take (n - k) (drop (a + k) s))) where
-  tails-step : k < n → a + n ≤ length s
-      → fits (replicate n tail) (take n (drop a s)) ≡ within 0x80 0xBF (getD s (a + k) 0) && fits (replicate (n - (k + 1)) tail) (take (n - (k + 1)) (drop (a + (k + 1)) s))
-  tails-step h l =
-      let z : n - k ≡ suc (n - (k + 1)) = omega arith in
-      let w : a + k + 1 ≡ a + (k + 1) = omega arith in
-      let v : a + k < length s = omega arith in
-      rw (inv, z, at-next s (a + k) v, w)
-
-  pub tails-low : k < n → a + n ≤ length s → getD s (a + k) 0 < 0x80 → false ≡ fits (replicate n tail) (take n (drop a s))
-  tails-low h l e = rw (tails-step h l, lt-leb _ _ e)
-
-  pub tails-high : k < n → a + n ≤ length s → 0xBF < getD s (a + k) 0 → false ≡ fits (replicate n tail) (take n (drop a s))
-  tails-high h l e = rw (tails-step h l, lt-leb _ _ e, and-false)
-
-  pub tails-more : k < n → a + n ≤ length s → 0x80 ≤ getD s (a + k) 0 → getD s (a + k) 0 ≤ 0xBF
-      → fits (replicate n tail) (take n (drop a s)) ≡ fits (replicate (n - (k + 1)) tail) (take (n - (k + 1)) (drop (a + (k + 1)) s))
-  tails-more h l e f = rw (tails-step h l, le-leb _ _ e, le-leb _ _ f)
-
-  pub tails-end : n ≤ k → true ≡ fits (replicate n tail) (take n (drop a s))
-  tails-end h = let z : n - k ≡ 0 = omega arith in rw (inv, z)
-
--- `size_with`
-module _ (s : List ℕ) (i n low high : ℕ) (two : 2 ≤ n) where
-  abbrev row-fits : Bool
-  row-fits = fits (to low high ∷ replicate (n - 2) tail) (take (n - 1) (drop (i + 1) s))
-
-  pub with-short : length s - i < n → 0 ≡ cond row-fits n 0
-  with-short h = rw (short row-fits (fits-length (to low high ∷ replicate (n - 2) tail) (take (n - 1) (drop (i + 1) s))))
-    where
-      short : (t : Bool) → (t ≡ true → length (to low high ∷ replicate (n - 2) tail) ≡ length (take (n - 1) (drop (i + 1) s))) → t ≡ false
-      short true f = absurd (omega (arith, f refl, length-replicate (n - 2) tail, length-take (n - 1) (drop (i + 1) s), length-drop (i + 1) s))
-      short false f = refl
-
-  second : n ≤ length s - i → row-fits ≡ within low high (getD s (i + 1) 0) && fits (replicate (n - 2) tail) (take (n - 2) (drop (i + 2) s))
-  second h =
-      let z : n - 1 ≡ suc (n - 2) = omega arith in
-      let w : i + 1 + 1 ≡ i + 2 = omega arith in
-      let v : i + 1 < length s = omega arith in
-      rw (z, at-next s (i + 1) v, w)
-
-  pub with-low : n ≤ length s - i → getD s (i + 1) 0 < low → 0 ≡ cond row-fits n 0
-  with-low h e = rw (second h, lt-leb _ _ e)
-
-  pub with-high : n ≤ length s - i → high < getD s (i + 1) 0 → 0 ≡ cond row-fits n 0
-  with-high h e = rw (second h, lt-leb _ _ e, and-false)
-
-  module _ (h : n ≤ length s - i) (l : low ≤ getD s (i + 1) 0) (k : getD s (i + 1) 0 ≤ high) (t : Bool) (e : t ≡ fits (replicate (n - 2) tail) (take (n - 2) (drop (i + 2) s))) where
-    pub with-tails : t ≡ true → n ≡ cond row-fits n 0
-    with-tails q = rw (second h, le-leb _ _ l, le-leb _ _ k, ← e, q)
-
-    pub with-not : t ≡ false → 0 ≡ cond row-fits n 0
-    with-not q = rw (second h, le-leb _ _ l, le-leb _ _ k, ← e, q)
-
--- `char_size`
 -- none of the bytes from a up to b lies in the range, or all do
 abbrev pub shuns : ℕ → ℕ → Range → Bool
 shuns a b r = ltb (r .high) a || leb b (r .low)
@@ -161,46 +100,12 @@ led-size a b ((r ∷ q) ∷ rs) x t h k l =
     rw (out-or-in a b x k l r (shuns a b r) refl (and-left (shuns a b r || takes a b r) (whole a b rs) h))
     (ap (cond (not (shuns a b r) && fits q (take (length q) t)) (suc (length q))) (led-size a b rs x t (and-right (shuns a b r || takes a b r) (whole a b rs) h) k l))
 
--- the character behind a lead byte from a up to b
-pub lead : (a b : ℕ) (s : List ℕ) (i n : ℕ) → i < length s → a ≤ getD s i 0 → getD s i 0 < b → whole a b rows ≡ true → n ≡ led a b rows (drop (i + 1) s) → n ≡ charSize (drop i s)
+lead-ascii : (s : List ℕ) (i : ℕ) → i < length s → getD s i 0 < 0x80 → charSize (drop i s) ≡ 1
 unfolding charSize
-lead a b s i n h k l w e = e ∙ sym (ap (sizeBy rows) (at-next s i h) ∙ led-size a b rows (getD s i 0) (drop (i + 1) s) w k l)
+lead-ascii s i h l = ap (sizeBy rows) (at-next s i h) ∙ led-size 0 0x80 rows (getD s i 0) (drop (i + 1) s) refl (omega arith) l
 
-pub lead-ascii : (s : List ℕ) (i : ℕ) → i < length s → getD s i 0 < 0x80 → 1 ≡ charSize (drop i s)
-lead-ascii s i h l = lead 0 0x80 s i 1 h (omega arith) l refl refl
-
-pub lead-over : (s : List ℕ) (i : ℕ) → i < length s → 0xF5 ≤ getD s i 0 → 0 ≡ charSize (drop i s)
-lead-over s i h l = lead 0xF5 (suc (getD s i 0)) s i 0 h l (omega arith) refl refl
-
--- `all_chars`
-size-le : (rs : List (List Range)) (s : List ℕ) → sizeBy rs s ≤ length s
-size-le [] s = omega arith
-size-le (r ∷ rs) s = step (fits r (take (length r) s)) (fits-length r (take (length r) s)) (size-le rs s)
-  where
-    step : (t : Bool) → (t ≡ true → length r ≡ length (take (length r) s)) → sizeBy rs s ≤ length s → cond t (length r) (sizeBy rs s) ≤ length s
-    step true f h = omega (arith, f refl, length-take (length r) s)
-    step false f h = h
-
-module _ (s : List ℕ) (i n : ℕ) (size : n ≡ charSize (drop i s)) where
-  -- the character lies in the text
-  pub char-inside : i < length s → length s < 2 ^ 64 → Fits w64 (i + n)
-  unfolding charSize
-  char-inside h l = record { fits = omega (arith, size-le rows (drop i s), length-drop i s) }
-
-  module _ (inv : utf8 s ≡ utf8 (drop i s)) where
-    pub utf8-more : utf8 s ≡ utf8 (drop (i + n) s)
-    utf8-more = inv ∙ utf8-next (drop i s) ∙ ap utf8 (drop-drop (charSize (drop i s)) i s ∙ ap (λ (k : ℕ). drop (i + k) s) (sym size))
-
-    pub utf8-bad : i < length s → n ≡ 0 → false ≡ utf8 s
-    utf8-bad h e = rw inv (sym (utf8-not (drop i s) (sym size ∙ e) (λ z. absurd (omega (arith, length-drop i s)))))
-
-module _ (s : List ℕ) (i : ℕ) (inv : utf8 s ≡ utf8 (drop i s)) where
-  pub utf8-ascii : i < length s → getD s i 0 < 0x80 → utf8 s ≡ utf8 (drop (i + 1) s)
-  utf8-ascii h l = utf8-more s i 1 (lead-ascii s i h l) inv
-
-  pub utf8-end : length s ≤ i → true ≡ utf8 s
-  unfolding utf8 behind
-  utf8-end h = sym (inv ∙ ap utf8 (drop-of-length-le s h))
+pub utf8-ascii : (s : List ℕ) (i : ℕ) → utf8 s ≡ utf8 (drop i s) → i < length s → getD s i 0 < 0x80 → utf8 s ≡ utf8 (drop (i + 1) s)
+utf8-ascii s i inv h l = inv ∙ utf8-next (drop i s) ∙ ap utf8 (drop-drop (charSize (drop i s)) i s ∙ ap (λ (k : ℕ). drop (i + k) s) (lead-ascii s i h l))
 
 -- `ascii_front`
 module _ (s : List ℕ) where

@@ -1,5 +1,7 @@
 pub mod Bytes
+pub mod Class
 pub mod Code
+pub mod Condition
 pub mod Copy
 pub mod Digit
 pub mod Field

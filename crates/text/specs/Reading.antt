@@ -1,6 +1,6 @@
 -- What a reader of a line answers on paper, and how readers are put together.
 use Prim.Native.Nat.{ℕ}
-use mathlib.Core.Bool.{Bool, cond}
+use mathlib.Core.Bool.{Bool, true, false, cond}
 use mathlib.Core.List.{List, [], _∷_}
 use mathlib.Core.Option.{Option, none, some}
 use lib.Dec.{leb, eqb}
@@ -17,6 +17,16 @@ pub data Mark : Type 0 where
   mark : Mark
 
 module _ {A : Type 0} where
+  -- the reading with its value forgotten: the number of the refusal, 0 where there is none
+  abbrev pub refusalIn : Reading A → ℕ
+  refusalIn (read a) = 0
+  refusalIn (refused k) = k
+
+  -- whether there is a value
+  abbrev pub present : Option A → Bool
+  present none = false
+  present (some a) = true
+
   -- the reading where the test passes, else refusal 3
   unfoldable pub only : Bool → Reading A → Reading A
   only t r = cond t r (refused 3)

@@ -1,3 +1,4 @@
+pub mod Class
 pub mod Handed
 pub mod Number
 pub mod Part

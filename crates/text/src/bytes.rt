@@ -1,10 +1,20 @@
 // Tests on a line's bytes, and where a byte stands.
 use crate::digit;
 ghost use mathlib.Core.Path.{_≡_};
-ghost use Prim.Native.Nat.{_+_, _≤_};
-ghost use lib.ListN.{length, drop};
+ghost use Prim.Native.Nat.{_+_, _≤_, _<_};
+ghost use lib.ListN.{length, drop, getD};
 ghost use Rattle.text.specs.Bytes.{same, startsWith, endsWith, indexOf, countOf, has, allWithin, allDigits};
 ghost use Rattle.text.specs.Gives.{Gives};
+
+// The byte at an index, 0 past the end.
+pub fn byte_at(s: &[u8], i: usize) -> u8
+    ensures { λ r. ⌜ Gives (getD (now (s .entry)) i 0) r ⌝ }
+{
+    if s.len() <= i {
+        return 0;
+    }
+    s[i]
+}
 
 // The index of the first b of s at or after `from`: where there is none, the length, or `from` where that is larger.
 pub fn find(s: &[u8], from: usize, b: u8) -> usize
@@ -27,19 +37,32 @@ pub fn has_byte(s: &[u8], b: u8) -> bool
     find(s, 0, b) < s.len()
 }
 
-// How often b stands in s.
-pub fn count_byte(s: &[u8], b: u8) -> usize
-    ensures { λ r. ⌜ Gives (countOf b (now (s .entry))) r ⌝ }
+// How often b stands in s, a text of at most 255 bytes: the count is a byte too, so the compiler counts in sixteen places at once.
+fn count_few(s: &[u8], b: u8) -> u8
+    requires { ⌜ length (now s) < 256 ⌝ }
+    ensures { λ r. ⌜ r ≡ countOf b (now (s .entry)) ⌝ }
 {
     let mut n = 0;
     let mut i = 0;
     while i < s.len() {
-        if s[i] == b {
-            n += 1;
-            i += 1;
-        } else {
-            i += 1;
-        }
+        n += (s[i] == b) as u8;
+        i += 1;
+    }
+    n
+}
+
+// How often b stands in s. No branch on the bytes.
+pub fn count_byte(s: &[u8], b: u8) -> usize
+    ensures { λ r. ⌜ Gives (countOf b (now (s .entry))) r ⌝ }
+{
+    if s.len() < 256 {
+        return count_few(s, b) as usize;
+    }
+    let mut n = 0;
+    let mut i = 0;
+    while i < s.len() {
+        n += (s[i] == b) as usize;
+        i += 1;
     }
     n
 }

@@ -1,5 +1,6 @@
 // The bytes of a line: tests, parts, fields, numbers, UTF-8, and the check that every line passes first.
 pub mod bytes;
+pub mod class;
 pub mod code;
 pub mod copy;
 pub mod digit;

@@ -1,9 +1,10 @@
 // Whole numbers, one reader per width over one reader of digits.
+use crate::bytes;
 use crate::digit;
 ghost use mathlib.Core.Path.{_≡_};
 ghost use mathlib.Core.Option.{some};
 ghost use Prim.Native.Nat.{_≤_};
-ghost use lib.ListN.{drop, getD};
+ghost use lib.ListN.{drop};
 ghost use Rattle.text.specs.Number.{digitValue, below, magnitude, unsigned, negative, signed};
 ghost use Rattle.text.specs.says.Number.{U8Keeps, U16Keeps, U32Keeps, U64Keeps, I32Keeps};
 
@@ -77,22 +78,12 @@ fn magnitude(s: &[u8], from: usize, base: u64, max: u64) -> ParsedU64
     ParsedU64::Is(n)
 }
 
-// The first byte, 0 where there is none.
-fn first(s: &[u8]) -> u8
-    ensures { λ r. ⌜ r ≡ getD (now (s .entry)) 0 0 ⌝ }
-{
-    if s.len() == 0 {
-        return 0;
-    }
-    s[0]
-}
-
 // The same after an optional plus.
 fn unsigned(s: &[u8], base: u64, max: u64) -> ParsedU64
     requires { ⌜ (1 ≤ base) × (base ≤ 16) ⌝ }
     ensures { λ r. ⌜ U64Keeps (unsigned base max (now (s .entry))) r ⌝ }
 {
-    if first(s) == b'+' {
+    if bytes::byte_at(s, 0) == b'+' {
         return magnitude(s, 1, base, max);
     }
     magnitude(s, 0, base, max)
@@ -171,7 +162,7 @@ fn negative(m: u64) -> i32
 pub fn parse_i32(s: &[u8]) -> ParsedI32
     ensures { λ r. ⌜ I32Keeps (signed 10 2147483647 (now (s .entry))) r ⌝ }
 {
-    if first(s) == b'-' {
+    if bytes::byte_at(s, 0) == b'-' {
         return match magnitude(s, 1, 10, 2147483648) {
             ParsedU64::Is(m) => ParsedI32::Is(negative(m)),
             ParsedU64::Not => ParsedI32::Not,

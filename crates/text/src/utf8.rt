@@ -1,106 +1,49 @@
-// UTF-8, by the rows of RFC 3629, section 4.
+// UTF-8: what is not ASCII goes by a table of states, proved from the rows of RFC 3629, section 4.
 ghost use mathlib.Core.Path.{_≡_};
-ghost use mathlib.Core.Bool.{cond};
-ghost use mathlib.Core.List.{_∷_};
-ghost use Prim.Native.Nat.{_+_, _-_, _≤_, _<_};
+ghost use Prim.Native.Nat.{_+_, _≤_, _<_};
 ghost use lib.Bits.{bitAnd};
-ghost use lib.ListN.{length, take, drop, replicate};
+ghost use lib.ListN.{length, drop};
 ghost use Rattle.text.specs.Gives.{Gives};
-ghost use Rattle.text.specs.Utf8.{to, tail, fits, charSize, utf8, AsciiIn};
+ghost use Rattle.text.specs.Utf8.{utf8, AsciiIn};
 
-// Whether n UTF8-tails stand from a on.
-fn all_tails(s: &[u8], a: usize, n: usize) -> bool
-    requires { ⌜ a + n ≤ length (now s) ⌝ }
-    ensures { λ r. ⌜ r ≡ fits (replicate n tail) (take n (drop a (now (s .entry)))) ⌝ }
+fn place(x: u8) -> usize
+    ensures { λ r. ⌜ (r ≡ x) × (r < 0x100) ⌝ }
 {
-    let mut k = 0;
-    while k < n {
-        let x = s[a + k];
-        if x < 0x80 {
-            return false;
-        }
-        if 0xBF < x {
-            return false;
-        }
-        k += 1;
-    }
-    true
+    x as usize
 }
 
-// n, where the byte behind i lies from low to high and n - 2 UTF8-tails follow it; else 0.
-fn size_with(s: &[u8], i: usize, n: usize, low: u8, high: u8) -> usize
-    requires { ⌜ (i < length (now s)) × (2 ≤ n) ⌝ }
-    ensures { λ r. ⌜ r ≡ cond (fits (to low high ∷ replicate (n - 2) tail) (take (n - 1) (drop (i + 1) (now (s .entry))))) n 0 ⌝ }
-{
-    if s.len() - i < n {
-        return 0;
-    }
-    let x = s[i + 1];
-    if x < low {
-        return 0;
-    }
-    if high < x {
-        return 0;
-    }
-    if all_tails(s, i + 2, n - 2) {
-        return n;
-    }
-    0
-}
-
-// How many bytes the character at i has, 0 where none stands there: the rows in order, by their lead bytes.
-fn char_size(s: &[u8], i: usize) -> usize
-    requires { ⌜ i < length (now s) ⌝ }
-    ensures { λ r. ⌜ r ≡ charSize (drop i (now (s .entry))) ⌝ }
-{
-    let x = s[i];
-    if x < 0x80 {
-        return 1;
-    }
-    if x < 0xC2 {
-        return 0;
-    }
-    if x < 0xE0 {
-        return size_with(s, i, 2, 0x80, 0xBF);
-    }
-    if x < 0xE1 {
-        return size_with(s, i, 3, 0xA0, 0xBF);
-    }
-    if x < 0xED {
-        return size_with(s, i, 3, 0x80, 0xBF);
-    }
-    if x < 0xEE {
-        return size_with(s, i, 3, 0x80, 0x9F);
-    }
-    if x < 0xF0 {
-        return size_with(s, i, 3, 0x80, 0xBF);
-    }
-    if x < 0xF1 {
-        return size_with(s, i, 4, 0x90, 0xBF);
-    }
-    if x < 0xF4 {
-        return size_with(s, i, 4, 0x80, 0xBF);
-    }
-    if x < 0xF5 {
-        return size_with(s, i, 4, 0x80, 0x8F);
-    }
-    0
-}
-
-// Whether s, which is UTF-8 where what stands from a on is, is UTF-8: from character to character.
+// Whether s, which is UTF-8 where what stands from a on is, is UTF-8. No branch on the bytes: nine states by what must follow, which are nothing (0), one, two or three
+// UTF8-tails (6, 12, 18), what E0, ED, F0 and F4 want (24, 30, 36, 42), and what no text has (48). Bytes that every state takes alike are of one kind, a letter. A kind's
+// row has the state behind it for each state before it, six bits at that state's number, so a shift finds it: two octal digits to a state, the first state last. The
+// compiler lays both tables on the stack at each call: it is not called where all is passed.
 fn all_chars(s: &[u8], a: usize) -> bool
     requires { ⌜ utf8 (now s) ≡ utf8 (drop a (now s)) ⌝ }
     ensures { λ r. ⌜ r ≡ utf8 (now (s .entry)) ⌝ }
 {
+    let kinds =
+        b"aaaaaaaaaaaaaaaaaaaaaaaaaaaaaaaaaaaaaaaaaaaaaaaaaaaaaaaaaaaaaaaaaaaaaaaaaaaaaaaaaaaaaaaaaaaaaaaaaaaaaaaaaaaaaaaaaaaaaaaaaaaaaaaabbbbbbbbbbbbbbbbccccccccccccccccddddddddddddddddddddddddddddddddlleeeeeeeeeeeeeeeeeeeeeeeeeeeeeefgggggggggggghggijjjklllllllllll";
+    let rows = [
+        0o606060606060606000u64,
+        0o601460066014060060,
+        0o606014066014060060,
+        0o606014600614060060,
+        0o606060606060606006,
+        0o606060606060606030,
+        0o606060606060606014,
+        0o606060606060606036,
+        0o606060606060606044,
+        0o606060606060606022,
+        0o606060606060606052,
+        0o606060606060606060,
+    ];
+    let mut state = 0;
     let mut i = a;
     while i < s.len() {
-        let n = char_size(s, i);
-        if n == 0 {
-            return false;
-        }
-        i += n;
+        let letter = kinds[place(s[i])];
+        state = rows[(letter - b'a') as usize] >> (state & 63);
+        i += 1;
     }
-    true
+    state & 63 == 0
 }
 
 fn wide(x: u8) -> u64
@@ -131,12 +74,26 @@ fn eight(s: &[u8], i: usize) -> u64
     four(s, i + 4) * 0x100000000 + four(s, i)
 }
 
+// How many ASCII bytes a short text begins with.
+fn ascii_few(s: &[u8]) -> usize
+    ensures { λ r. ⌜ utf8 (now (s .entry)) ≡ utf8 (drop r (now (s .entry))) ⌝ }
+{
+    let mut i = 0;
+    while i < s.len() {
+        if 0x80 <= s[i] {
+            return i;
+        }
+        i += 1;
+    }
+    i
+}
+
 // How many bytes are passed, eight at a time, up to the first eight that are not all ASCII. The last eight may lie over some that are passed.
 fn ascii_front(s: &[u8]) -> usize
     ensures { λ r. ⌜ utf8 (now (s .entry)) ≡ utf8 (drop r (now (s .entry))) ⌝ }
 {
     if s.len() < 8 {
-        return 0;
+        return ascii_few(s);
     }
     let last = s.len() - 8;
     let mut i = 0;
@@ -156,5 +113,9 @@ fn ascii_front(s: &[u8]) -> usize
 pub fn is_utf8(s: &[u8]) -> bool
     ensures { λ r. ⌜ Gives (utf8 (now (s .entry))) r ⌝ }
 {
-    all_chars(s, ascii_front(s))
+    let a = ascii_front(s);
+    if s.len() <= a {
+        return true;
+    }
+    all_chars(s, a)
 }

@@ -2,6 +2,8 @@ pub mod Refusals
 pub mod Apart
 pub mod Turns
 pub mod Order
+pub mod Rows
+pub mod OneReader
 pub mod Commands
 pub mod Equipment
 pub mod Fourteen

@@ -126,7 +126,7 @@ all-three j (refused i ∷ rs) e = let h = all-three (worse j i) rs e in go (eqb
     go false is h g = let z = eq-eqb j 3 h in never (cc)
 
 -- a refusal under another name
-renamed : {A B : Type 0} (f : A → B) (x : Reading A) (k : ℕ) → mapped f x ≡ refused k → x ≡ refused k
+pub renamed : {A B : Type 0} (f : A → B) (x : Reading A) (k : ℕ) → mapped f x ≡ refused k → x ≡ refused k
 unfolding mapped
 renamed f (read a) k e = never (cc)
 renamed f (refused j) k e = ap refused (cc)

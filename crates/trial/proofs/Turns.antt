@@ -62,21 +62,23 @@ module _ (l : List ℕ) where
       go (refused k) four = refl
 
   -- behind the one check of the line
-  behind : {A : Type 0} (f : A → Said) (reader : List ℕ → Reading A) → saidText l ≡ mapped f (reader l) → lineSaid l ≡ mapped f (checked reader l)
-  unfolding lineSaid checked mapped
-  behind f reader e = go (eqb (lineCheck l) 0)
+  pub behind : {A B : Type 0} (whole : List ℕ → Reading B) (f : A → B) (reader : List ℕ → Reading A) → whole l ≡ mapped f (reader l) → checked whole l ≡ mapped f (checked reader l)
+  unfolding checked mapped
+  behind whole f reader e = go (eqb (lineCheck l) 0)
     where
-      go : (t : Bool) → cond t (saidText l) (refused (lineCheck l)) ≡ mapped f (cond t (reader l) (refused (lineCheck l)))
+      go : (t : Bool) → cond t (whole l) (refused (lineCheck l)) ≡ mapped f (cond t (reader l) (refused (lineCheck l)))
       go true = e
       go false = refl
 
   -- as the code has the test under the name t, and the answer of the trial that it asks
   module _ (t : Bool) (is : t ≡ begins l) where
     pub said-begun : t ≡ true → {r : Reading Unsolicited} → r ≡ checked urcText l → mapped unsolicited r ≡ lineSaid l
-    said-begun h e = ap (mapped unsolicited) e ∙ sym (behind unsolicited urcText (text-begun (sym is ∙ h)))
+    unfolding lineSaid
+    said-begun h e = ap (mapped unsolicited) e ∙ sym (behind saidText unsolicited urcText (text-begun (sym is ∙ h)))
 
     pub said-other : t ≡ false → {r : Reading Response} → r ≡ checked responseText l → mapped response r ≡ lineSaid l
-    said-other h e = ap (mapped response) e ∙ sym (behind response responseText (text-other (sym is ∙ h)))
+    unfolding lineSaid
+    said-other h e = ap (mapped response) e ∙ sym (behind saidText response responseText (text-other (sym is ∙ h)))
 
     -- and by the cases of that answer
     pub line-urc : t ≡ true → (r : UrcAnswer) → UrcKeeps l r → (u : Urc) → r ≡ U.Value u → LineKeeps l (L.Unsolicited u)

@@ -1,6 +1,9 @@
 pub mod Answer
 pub mod Sort
+pub mod Taker
 pub mod Refusals
 pub mod Commands
+pub mod Conditions
+pub mod Row
 pub mod Fourteen
 pub mod says

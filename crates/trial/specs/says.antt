@@ -1,4 +1,5 @@
 pub mod Line
+pub mod Engines
 pub mod Equipment
 pub mod Refusals
 pub mod Fourteen

@@ -1,4 +1,8 @@
-// Reads a line, whichever reader takes it: both trials in turn behind one check of its length and of its UTF-8.
+// Reads a line, whichever reader takes it. Here the readers are tried in their order, both trials in turn behind one check of the line's length and of its UTF-8; `straight` asks
+// the one that could take the line.
+mod row;
+pub mod straight;
+
 use at_command::ResponseCode;
 use at_command::ResponseCodeAnswer;
 use at_command::request::ResponseKind;
@@ -18,6 +22,14 @@ pub enum Sort {
     Refused(u8),
     Response(ResponseKind),
     Unsolicited,
+}
+
+// Which reader takes a line: a response's kind, or one of the two unsolicited ones.
+pub enum Taker {
+    Refused(u8),
+    Response(ResponseKind),
+    GnssReport,
+    NetworkRegistration,
 }
 
 impl Line {

@@ -1,5 +1,7 @@
+pub mod ByPlace
 pub mod Calendars
 pub mod CalendarFacts
+pub mod Conditions
 pub mod Dates
 pub mod Examples
 pub mod One

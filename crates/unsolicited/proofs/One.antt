@@ -17,7 +17,7 @@ use Rattle.unsolicited.specs.says.Gnss.{dateOptionSays, reportSays, Date
 use Rattle.unsolicited.specs.says.Gnss.{says as reportAnswerSays}
 use Rattle.unsolicited.specs.says.Registration.{statusNumber, registrationSays, RegistrationKeeps}
 use Rattle.unsolicited.specs.says.Registration.{says as registrationAnswerSays}
-use Rattle.unsolicited.specs.says.Urc.{urcSays, UrcKeeps}
+use Rattle.unsolicited.specs.says.Urc.{urcSays, UrcKeeps, UrcAtKeeps}
 use Rattle.unsolicited.specs.says.Urc.{says as urcAnswerSays}
 use Rattle.unsolicited.specs.declared.network_registration.RegistrationStatus.{RegistrationStatus}
 use Rattle.unsolicited.specs.declared.network_registration.RegistrationStatus.the-variants.{NotRegistered, RegisteredHome, Searching, RegistrationDenied, Unknown, RegisteredRoaming}
@@ -128,3 +128,7 @@ back-trial (A.Refused k) = refl
 -- one answer: Urc::from_line
 pub one-urc : (line : List ℕ) (a b : UrcAnswer) → UrcKeeps line a → UrcKeeps line b → a ≡ b
 one-urc line a b = one-answer urcAnswerSays (answer A.Value A.Refused urc) back-trial a b (checked U.urcText line)
+
+-- one answer: straight::read_at
+pub one-urc-at : (place : ℕ) (line : List ℕ) (a b : UrcAnswer) → UrcAtKeeps place line a → UrcAtKeeps place line b → a ≡ b
+one-urc-at place line a b = one-answer urcAnswerSays (answer A.Value A.Refused urc) back-trial a b (checked (U.urcReadingAt place) line)

@@ -1,6 +1,6 @@
--- The registration readers: the status by its number, which field it is, and that they refuse with 3 alone. Assumes nothing.
-use mathlib.Core.Path.{_≡_, refl, sym, ap}
-use mathlib.Core.Bool.{Bool, true, false, cond, _&&_, _||_, or-self-left}
+-- The registration readers: the status by its number, which field it is, that it alone decides, and that they refuse with 3 alone. Assumes nothing.
+use mathlib.Core.Path.{_≡_, refl, sym, ap, _∙_}
+use mathlib.Core.Bool.{Bool, true, false, cond, _&&_, _||_, or-self-left, or-false, or-assoc}
 use mathlib.Core.List.{List, [], _∷_}
 use mathlib.Core.Option.{Option}
 use Prim.Native.Nat.{ℕ, _≤_, _<_}
@@ -15,8 +15,9 @@ use Rattle.text.specs.Bytes.{allDigits}
 use Rattle.text.specs.Part.{among}
 use Rattle.text.specs.Field.{fields, nth}
 use Rattle.text.specs.Number.{signed}
-use Rattle.text.specs.Reading.{Reading, read}
-use Rattle.text.proofs.Readings.{via}
+use Rattle.text.specs.Reading.{Reading, read, refused, only, either, need, present, refusalIn}
+use Rattle.text.proofs.Readings.{via, refusal-need}
+use Rattle.unsolicited.specs.Places.{statusPlace}
 use Rattle.unsolicited.specs.Registration.{Registration, statusOf, registrationAt, registrationFields, cregText, cgregText, ceregStatus, ceregFields, ceregText}
 use Rattle.text.proofs.Yields.{yields-only, yields-either, yields-need}
 use Rattle.unsolicited.proofs.Trials.{Plain}
@@ -59,6 +60,42 @@ module _ (o : Option ℤ) (k : ℕ) (t : List ℕ) (count : k ≡ length (fields
     pub by-first : (f : List ℕ) → x ≡ false → f ≡ nth 0 (fields 44 t) → o ≡ signed 10 2147483647 f → o ≡ signed 10 2147483647 (ceregStatus (fields 44 t))
     unfolding ceregStatus
     by-first f h q e = rw (sym count, lt-ltb 1 k (omega arith), ← second, ← digits, h, ← q) e
+
+-- `status_place`
+module _ (k l : ℕ) where
+  pub place-first : eqb k 1 || eqb k 4 ≡ true → 0 ≡ statusPlace (2 ∷ 5 ∷ l ∷ []) k
+  place-first h = rw (or-false (eqb k 4), h)
+
+  module _ (h : eqb k 1 || eqb k 4 ≡ false) where
+    pub place-second : eqb k 2 || eqb k 5 || eqb k l ≡ true → 1 ≡ statusPlace (2 ∷ 5 ∷ l ∷ []) k
+    place-second e = rw (or-false (eqb k 4), h, or-false (eqb k l), sym (or-assoc (eqb k 2) (eqb k 5) (eqb k l)) ∙ e)
+
+    pub place-none : eqb k 2 || eqb k 5 || eqb k l ≡ false → 2 ≡ statusPlace (2 ∷ 5 ∷ l ∷ []) k
+    place-none e = rw (or-false (eqb k 4), h, or-false (eqb k l), sym (or-assoc (eqb k 2) (eqb k 5) (eqb k l)) ∙ e)
+
+-- the status stands at the place n, or there is none
+module _ (skipping : List ℕ) (fs : List (List ℕ)) (k n : ℕ) (count : k ≡ length fs) (is : n ≡ statusPlace skipping k) where
+  pub at-place : n ≤ 1 → registrationAt n fs ≡ registrationFields skipping fs
+  unfolding registrationFields either only
+  at-place h = go (among (1 ∷ 4 ∷ []) (length fs)) (among skipping (length fs)) (is ∙ ap (statusPlace skipping) count)
+    where
+      go : (a b : Bool) → n ≡ cond a 0 (cond b 1 2) → registrationAt n fs ≡ either a (registrationAt 0 fs) (only b (registrationAt 1 fs))
+      go true b e = ap (λ (m : ℕ). registrationAt m fs) e
+      go false true e = ap (λ (m : ℕ). registrationAt m fs) e
+      go false false e = absurd (omega arith)
+
+  pub no-place : 1 < n → refused 3 ≡ registrationFields skipping fs
+  unfolding registrationFields either only
+  no-place h = go (among (1 ∷ 4 ∷ []) (length fs)) (among skipping (length fs)) (is ∙ ap (statusPlace skipping) count)
+    where
+      go : (a b : Bool) → n ≡ cond a 0 (cond b 1 2) → refused 3 ≡ either a (registrationAt 0 fs) (only b (registrationAt 1 fs))
+      go true b e = absurd (omega arith)
+      go false true e = absurd (omega arith)
+      go false false e = refl
+
+-- the refusal alone: what is read beside the status refuses nothing
+pub by-status : (k : ℕ) (o p : Option ℤ) (g : ℤ → Registration) → k ≡ cond (present o) 0 3 → o ≡ p → k ≡ refusalIn (need p (λ z. read (g z)))
+by-status k o p g e h = e ∙ ap (λ (q : Option ℤ). cond (present q) 0 3) h ∙ refusal-need 3 0 p _ (λ z. refl)
 
 pub registry : (a x : ℕ) (b y c z : Option ℕ) → a ≡ x → b ≡ y → c ≡ z
     → _≡_ {A = Reading Registration} (read (record { status = a; lac = b; ci = c })) (read (record { status = x; lac = y; ci = z }))

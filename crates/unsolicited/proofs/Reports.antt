@@ -1,7 +1,7 @@
--- The parts of +UGNSINF: where its fields begin, what may be empty, what the code's answers pick; and the date that a report has, or for want of which it is refused.
+-- The parts of +UGNSINF: where its fields begin, what may be empty, what the code's answers pick, of the report or of its refusal alone; and the date that a report has, or for want of which it is refused.
 -- Assumes nothing.
 use mathlib.Core.Path.{_≡_, refl, ap, sym, subst, _∙_}
-use mathlib.Core.Bool.{Bool, true, false, cond, _&&_}
+use mathlib.Core.Bool.{Bool, true, false, cond, not, _&&_}
 use mathlib.Core.List.{List}
 use mathlib.Core.Option.{Option, none, some}
 use Prim.Native.Nat.{ℕ, _≤_, _<_}
@@ -10,15 +10,16 @@ use lib.Dec.{eqb}
 use lib.Ieee.{Float, binary32, ofBits, ofFields, fin}
 use lib.IntN.{pos}
 use lib.ListN.{length, getD, drop}
-use borrow.Author.Tests.{eq-eqb, ne-eqb, eqb-true}
+use borrow.Author.Tests.{eq-eqb, ne-eqb, eqb-true, not-true, not-false}
+use Rattle.text.specs.Bytes.{bytes, same}
 use Rattle.text.specs.Field.{fields, nth}
 use Rattle.text.specs.Reader.{FieldStartsKeeps}
-use Rattle.text.specs.Reading.{Reading, read, refused, only, need, needElse}
+use Rattle.text.specs.Reading.{Reading, read, refused, refusalIn, present, only, need, needElse}
 use Rattle.text.specs.says.Number.{saysU32}
 use Rattle.text.specs.declared.number.ParsedU32.{ParsedU32}
 use Rattle.text.specs.declared.number.ParsedU32.the-variants.{Is, Not}
 use Rattle.text.proofs.ReaderStarts.{starts-in, starts-past}
-use Rattle.text.proofs.Readings.{only-is, only-else, need-so, need-not}
+use Rattle.text.proofs.Readings.{only-is, only-else, otherwise-so, otherwise-not, need-so, need-not, refuses, accepts, sorts, there, missing, not-there, refusal-need}
 use Rattle.text.proofs.Tests.{never, not-some}
 use Rattle.text.proofs.Yields.{Yields, yields-only, yields-either, yields-need}
 use Rattle.numeral.specs.Numeral.{floatOf, numeralText}
@@ -68,6 +69,12 @@ module _ (r : ParsedU32) (o : Option ℕ) (h : saysU32 r ≡ o) where
   pub count-none : r ≡ Not → none ≡ o
   count-none e = sym (ap saysU32 e) ∙ h
 
+  pub count-there : (n : ℕ) → r ≡ Is n → true ≡ present o
+  count-there n e = there o n (count-read n e)
+
+  pub count-missing : r ≡ Not → false ≡ present o
+  count-missing e = missing o (count-none e)
+
 pub without-fix : (o p : Option ℕ) → o ≡ p → _≡_ {A = Reading Report} (read (noFix o)) (read (noFix p))
 without-fix o p e = rw e
 
@@ -77,10 +84,13 @@ unfolding needElse only
 needed true v o f e = rw (sym e)
 needed false v o f e = rw (sym e)
 
+cond-and : {A : Type 0} (a b : Bool) (x y : A) → cond (a && b) x y ≡ cond a (cond b x y) y
+cond-and true b x y = refl
+cond-and false b x y = refl
+
 only-and : {A : Type 0} (a b : Bool) (r : Reading A) → only (a && b) r ≡ only a (only b r)
 unfolding only
-only-and true b r = refl
-only-and false b r = refl
+only-and a b r = cond-and a b r (refused 3)
 
 -- `fix_on`: twelve of them
 module _ (d : Date) (fs : List (List ℕ)) (la lo al sp co hd pd vd : Field) (iv gn gl ra : Count)
@@ -114,15 +124,51 @@ module _ (d : Date) (fs : List (List ℕ)) (la lo al sp co hd pd vd : Field) (iv
       rw (needed (la .good) (la .value) _ _ e1, needed (lo .good) (lo .value) _ _ e2, needed (al .good) (al .value) _ _ e3, needed (sp .good) (sp .value) _ _ e4, needed (co .good) (co .value) _ _ e5, needed (hd .good) (hd .value) _ _ e6, needed (pd .good) (pd .value) _ _ e7, needed (vd .good) (vd .value) _ _ e8, needed (iv .good) (iv .value) _ _ e9, needed (gn .good) (gn .value) _ _ e10, needed (gl .good) (gl .value) _ _ e11, needed (ra .good) (ra .value) _ _ e12)
       (simp only-and)
 
+-- `refusal_on`: of the same twelve, whether each is there
+asked : {A : Type 0} (t : Bool) (j : ℕ) (o : Option A) (f : A → Reading Report) → t ≡ present o → ((a : A) → j ≡ refusalIn (f a)) → cond t j 3 ≡ refusalIn (need o f)
+asked t j o f e h = ap (λ (x : Bool). cond x j 3) e ∙ refusal-need 3 j o f h
+
+module _ (fs : List (List ℕ)) (la lo al sp co hd pd vd iv gn gl ra : Bool)
+    (e1 : la ≡ present (floatOf (nth 3 fs))) (e2 : lo ≡ present (floatOf (nth 4 fs))) (e3 : al ≡ present (floatOf (nth 5 fs)))
+    (e4 : sp ≡ present (floatOrZero (nth 6 fs))) (e5 : co ≡ present (floatOrZero (nth 7 fs)))
+    (e6 : hd ≡ present (floatOrZero (nth 10 fs))) (e7 : pd ≡ present (floatOrZero (nth 11 fs))) (e8 : vd ≡ present (floatOrZero (nth 12 fs)))
+    (e9 : iv ≡ present (countOrZero (nth 14 fs))) (e10 : gn ≡ present (countOrZero (nth 15 fs))) (e11 : gl ≡ present (countOrZero (nth 16 fs))) (e12 : ra ≡ present (countOrZero (nth 18 fs))) where
+  pub refusal-is : (d : Date) → cond ((la && lo && al) && (sp && co) && (hd && pd && vd) && (iv && gn && gl && ra)) 0 3 ≡ refusalIn (fixOn d fs)
+  unfolding fixOn
+  refusal-is d =
+      simp cond-and
+      (asked la _ _ _ e1 (λ a. asked lo _ _ _ e2 (λ b. asked al _ _ _ e3 (λ c. asked sp _ _ _ e4 (λ d. asked co _ _ _ e5 (λ e. asked hd _ _ _ e6 (λ f.
+      asked pd _ _ _ e7 (λ g. asked vd _ _ _ e8 (λ h. asked iv _ _ _ e9 (λ i. asked gn _ _ _ e10 (λ j. asked gl _ _ _ e11 (λ k. asked ra _ _ _ e12 (λ l. refl)))))))))))))
+
 -- `gnss_fix`: the field under the name t, and what `DateTime::new` answers to it
 module _ (fs : List (List ℕ)) (t : List ℕ) (r : ParsedDateTime) (keeps : DateKeeps t r) (is : t ≡ nth 2 fs) where
+  date-is : (o : ParsedDateTime) → r ≡ o → dateOptionSays o ≡ dateOf (nth 2 fs)
+  date-is o e = sym (ap dateOptionSays e) ∙ keeps ∙ ap dateOf is
+
   pub with-date : (d : DateTime) → r ≡ IsDate d → (q : Reading Report) → q ≡ fixOn (dateSays d) fs → q ≡ fixOf fs
   unfolding fixOf
-  with-date d e q h = need-so 13 (dateOf (nth 2 fs)) (dateSays d) _ q (sym (ap dateOptionSays e) ∙ keeps ∙ ap dateOf is) h
+  with-date d e q h = need-so 13 (dateOf (nth 2 fs)) (dateSays d) _ q (date-is (IsDate d) e) h
 
   pub without-date : r ≡ NotDate → refused 13 ≡ fixOf fs
   unfolding fixOf
-  without-date e = need-not 13 (dateOf (nth 2 fs)) _ (sym (ap dateOptionSays e) ∙ keeps ∙ ap dateOf is)
+  without-date e = need-not 13 (dateOf (nth 2 fs)) _ (date-is NotDate e)
+
+  -- and where it is only asked for
+  pub dated : (d : DateTime) → r ≡ IsDate d → true ≡ present (dateOf (nth 2 fs))
+  dated d e = there (dateOf (nth 2 fs)) (dateSays d) (date-is (IsDate d) e)
+
+  pub undated-so : r ≡ NotDate → false ≡ present (dateOf (nth 2 fs))
+  undated-so e = missing (dateOf (nth 2 fs)) (date-is NotDate e)
+
+-- `report_refusal`: the code's answer x, whether there is a date, and the refusal k of what follows, whichever date that is
+module _ (fs : List (List ℕ)) (x : Bool) (is : x ≡ present (dateOf (nth 2 fs))) where
+  pub refused-undated : not x ≡ true → 13 ≡ refusalIn (fixOf fs)
+  unfolding fixOf
+  refused-undated h = refuses _ 13 (need-not 13 (dateOf (nth 2 fs)) _ (not-there _ (sym is ∙ not-true x h)))
+
+  pub refused-on : (k : ℕ) → not x ≡ false → ((d : Date) → k ≡ refusalIn (fixOn d fs)) → k ≡ refusalIn (fixOf fs)
+  unfolding fixOf
+  refused-on k h e = ap (λ (y : Bool). cond y k 13) (sym (not-false x h) ∙ is) ∙ refusal-need 13 k (dateOf (nth 2 fs)) _ e
 
 -- a field that may be empty, which the code has under the name t
 module _ {A : Type 0} (z : A) (reads : List ℕ → Option A) (t s : List ℕ) (is : t ≡ s) where
@@ -133,6 +179,13 @@ module _ {A : Type 0} (z : A) (reads : List ℕ → Option A) (t s : List ℕ) (
   pub filled : (o : Option A) → (length t ≡ 0 → ⊥) → o ≡ reads t → o ≡ orZero z reads s
   unfolding orZero
   filled o h e = rw (← is, ne-eqb (length t) 0 h) e
+
+  -- and where it is only asked for
+  pub may-be-empty : length t ≡ 0 → true ≡ present (orZero z reads s)
+  may-be-empty h = there (orZero z reads s) z (empty h)
+
+  pub else-readable : (x : Bool) → (length t ≡ 0 → ⊥) → x ≡ present (reads t) → x ≡ present (orZero z reads s)
+  else-readable x h e = e ∙ ap present (filled (reads t) h refl)
 
 pub float-empty : (t s : List ℕ) → t ≡ s → length t ≡ 0 → some (ofBits binary32 0) ≡ floatOrZero s
 unfolding floatOrZero ofBits ofFields
@@ -153,6 +206,21 @@ module _ (s ps : List ℕ) (starts : FieldStartsKeeps s ps) where
 
   pub there-so : getD ps 20 0 ≤ length s → length s < getD ps 21 0 → (r q : Reading Report) → q ≡ r → q ≡ only (eqb (length (fields 44 s)) 21) r
   there-so h l r q e = only-is (length (fields 44 s)) (length (fields 44 s)) 21 r q refl (all-there h l .count) e
+
+  -- the refusal alone, by the code's tests x and y of the two statuses
+  module _ (h : getD ps 20 0 ≤ length s) (l : length s < getD ps 21 0) (x : Bool) (run : x ≡ same (nth 0 (fields 44 s)) (bytes "1")) where
+    pub sort-off : not x ≡ true → 0 ≡ refusalIn (ugnsinfFields (fields 44 s))
+    unfolding ugnsinfFields
+    sort-off n = accepts _ notEnabled (there-so h l _ _ (otherwise-not _ x _ _ _ run n refl))
+
+    module _ (on : not x ≡ false) (y : Bool) (status : y ≡ same (nth 1 (fields 44 s)) (bytes "1")) where
+      pub sort-without : not y ≡ true → 0 ≡ refusalIn (ugnsinfFields (fields 44 s))
+      unfolding ugnsinfFields
+      sort-without n = accepts _ _ (there-so h l _ _ (otherwise-so _ x _ _ _ run on (otherwise-not _ y _ _ _ status n refl)))
+
+      pub sort-fix : (k : ℕ) → not y ≡ false → k ≡ refusalIn (fixOf (fields 44 s)) → k ≡ refusalIn (ugnsinfFields (fields 44 s))
+      unfolding ugnsinfFields
+      sort-fix k n e = sorts _ k (fixOf (fields 44 s)) e (there-so h l _ _ (otherwise-so _ x _ _ _ run on (otherwise-so _ y _ _ _ status n refl)))
 
 -- a report that is read has the date of its third field, where it has a fix; what is refused is refused with 3, and with 13 for want of such a date
 abbrev pub Dated : List ℕ → Report → Type 0

@@ -1,5 +1,6 @@
 pub mod Calendar
 pub mod CalendarFacts
+pub mod Conditions
 pub mod Date
 pub mod Gnss
 pub mod Places

@@ -3,6 +3,7 @@ use Prim.Native.Nat.{ℕ}
 use mathlib.Core.Bool.{Bool, _||_}
 use mathlib.Core.List.{List, _∷_}
 use Rattle.text.specs.Bytes.{bytes, startsWith}
+use Rattle.text.specs.Condition.{nthReading}
 use Rattle.text.specs.Reading.{Reading, mapped, each, firstOf}
 use Rattle.unsolicited.specs.Gnss.{Report, ugnsinfText}
 use Rattle.unsolicited.specs.Registration.{Registration, registrationReadings}
@@ -18,6 +19,10 @@ urcReadings s = mapped gnss (ugnsinfText s) ∷ each registration (registrationR
 unfoldable pub urcText : List ℕ → Reading Unsolicited
 urcText s = firstOf 3 (urcReadings s)
 
--- the line begins as one of these does: by this test `trial` chooses which trial to ask (trial/proofs/Turns.antt)
+-- what one of the four says, by its place in that order; past the last, a refusal with 3
+unfoldable pub urcReadingAt : ℕ → List ℕ → Reading Unsolicited
+urcReadingAt place s = nthReading place (urcReadings s)
+
+-- the line begins as one of these does: by this test the ordered trial chooses which of the two to ask (trial/proofs/Turns.antt)
 unfoldable pub begins : List ℕ → Bool
 begins s = startsWith (bytes "+UGNSINF: ") s || (startsWith (bytes "+CREG: ") s || (startsWith (bytes "+CGREG: ") s || startsWith (bytes "+CEREG: ") s))

@@ -14,6 +14,7 @@ use text::reader;
 ghost use mathlib.Core.Path.{_≡_};
 ghost use Rattle.text.specs.Field.{fields};
 ghost use Rattle.text.specs.Number.{signed};
+ghost use Rattle.text.specs.Reading.{refusalIn};
 ghost use Rattle.text.specs.says.Number.{saysI32};
 ghost use Rattle.unsolicited.specs.Registration.{ceregStatus, ceregFields, ceregText};
 ghost use Rattle.unsolicited.specs.says.Registration.{says, RegistrationKeeps};
@@ -48,6 +49,13 @@ fn registration(rest: &[u8]) -> NetworkRegistrationAnswer
     })
 }
 
+// As `registration`, with every value forgotten.
+fn refusal_in(rest: &[u8]) -> u8
+    ensures { λ r. ⌜ r ≡ refusalIn (ceregFields (fields 44 (now (rest .entry)))) ⌝ }
+{
+    network_registration::status_refusal(status_in(rest))
+}
+
 impl CEReg {
     pub(crate) fn from_checked(line: &[u8]) -> NetworkRegistrationAnswer
         ensures { λ r. ⌜ says r ≡ ceregText (now (line .entry)) ⌝ }
@@ -66,5 +74,15 @@ impl CEReg {
             return NetworkRegistrationAnswer::Refused(k);
         }
         CEReg::from_checked(line)
+    }
+
+    // The answer of `from_checked` with its value forgotten: the number of the refusal, 0 where there is none.
+    pub(crate) fn refusal_checked(line: &[u8]) -> u8
+        ensures { λ r. ⌜ r ≡ refusalIn (ceregText (now (line .entry))) ⌝ }
+    {
+        if !bytes::starts_with(line, b"+CEREG: ") {
+            return 3;
+        }
+        refusal_in(part::skip(line, 8))
     }
 }

@@ -5,6 +5,7 @@ use text::bytes;
 use text::line;
 use text::part;
 ghost use mathlib.Core.Path.{_≡_};
+ghost use Rattle.text.specs.Reading.{refusalIn};
 ghost use Rattle.unsolicited.specs.Registration.{cgregText};
 ghost use Rattle.unsolicited.specs.says.Registration.{says, RegistrationKeeps};
 
@@ -28,5 +29,15 @@ impl CGReg {
             return NetworkRegistrationAnswer::Refused(k);
         }
         CGReg::from_checked(line)
+    }
+
+    // The answer of `from_checked` with its value forgotten: the number of the refusal, 0 where there is none.
+    pub(crate) fn refusal_checked(line: &[u8]) -> u8
+        ensures { λ r. ⌜ r ≡ refusalIn (cgregText (now (line .entry))) ⌝ }
+    {
+        if !bytes::starts_with(line, b"+CGREG: ") {
+            return 3;
+        }
+        network_registration::refusal(part::skip(line, 8), 8)
     }
 }

@@ -5,6 +5,7 @@ use text::bytes;
 use text::line;
 use text::part;
 ghost use mathlib.Core.Path.{_≡_};
+ghost use Rattle.text.specs.Reading.{refusalIn};
 ghost use Rattle.unsolicited.specs.Registration.{cregText};
 ghost use Rattle.unsolicited.specs.says.Registration.{says, RegistrationKeeps};
 
@@ -28,5 +29,15 @@ impl CReg {
             return NetworkRegistrationAnswer::Refused(k);
         }
         CReg::from_checked(line)
+    }
+
+    // The answer of `from_checked` with its value forgotten: the number of the refusal, 0 where there is none.
+    pub(crate) fn refusal_checked(line: &[u8]) -> u8
+        ensures { λ r. ⌜ r ≡ refusalIn (cregText (now (line .entry))) ⌝ }
+    {
+        if !bytes::starts_with(line, b"+CREG: ") {
+            return 3;
+        }
+        network_registration::refusal(part::skip(line, 7), 5)
     }
 }

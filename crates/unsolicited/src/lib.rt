@@ -4,6 +4,7 @@ pub mod cereg;
 pub mod cgreg;
 pub mod creg;
 pub mod network_registration;
+pub mod straight;
 pub mod ugnsinf;
 
 use crate::network_registration::NetworkRegistration;

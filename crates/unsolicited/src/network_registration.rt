@@ -11,10 +11,13 @@ use text::number::ParsedU32;
 use text::part;
 use text::reader;
 ghost use mathlib.Core.Path.{_≡_};
+ghost use mathlib.Core.Bool.{cond};
 ghost use mathlib.Core.List.{[], _∷_};
 ghost use Prim.Native.Nat.{_≤_};
 ghost use Rattle.text.specs.Field.{fields, nth};
-ghost use Rattle.text.specs.says.Number.{saysU16, saysU32};
+ghost use Rattle.text.specs.Reading.{present, refusalIn};
+ghost use Rattle.text.specs.says.Number.{saysU16, saysU32, saysI32};
+ghost use Rattle.unsolicited.specs.Places.{statusPlace};
 ghost use Rattle.unsolicited.specs.Registration.{statusOf, hexIn, registrationAt, registrationFields, registrationText};
 ghost use Rattle.unsolicited.specs.says.Registration.{statusNumber, says, RegistrationKeeps};
 
@@ -88,27 +91,56 @@ fn registration_at(rest: &[u8], n: usize) -> NetworkRegistrationAnswer
     })
 }
 
-// Reads what follows the prefix: of 1 or 4 fields the status is the first; of 2, 5 or `longest` one field is skipped before it; any other count is refused.
+// The field of so many that is the status: of 1 or 4 the first, of 2, 5 or `longest` the second; any other count is refused, and has 2.
+fn status_place(count: usize, longest: usize) -> usize
+    ensures { λ r. ⌜ r ≡ statusPlace (2 ∷ 5 ∷ longest ∷ []) count ⌝ }
+{
+    if (count == 1) | (count == 4) {
+        return 0;
+    }
+    if (count == 2) | (count == 5) | (count == longest) {
+        return 1;
+    }
+    2
+}
+
+// Reads what follows the prefix.
 pub(crate) fn registration(rest: &[u8], longest: usize) -> NetworkRegistrationAnswer
     ensures { λ r. ⌜ says r ≡ registrationFields (2 ∷ 5 ∷ longest ∷ []) (fields 44 (now (rest .entry))) ⌝ }
 {
-    let count = field::field_count(rest, b',');
-    if count == 1 {
-        return registration_at(rest, 0);
+    let n = status_place(field::field_count(rest, b','), longest);
+    if 1 < n {
+        return NetworkRegistrationAnswer::Refused(3);
     }
-    if count == 4 {
-        return registration_at(rest, 0);
+    registration_at(rest, n)
+}
+
+// The refusal of a line by its status alone: what else is unreadable does not refuse it.
+pub(crate) fn status_refusal(status: ParsedI32) -> u8
+    ensures { λ r. ⌜ r ≡ cond (present (saysI32 status)) 0 3 ⌝ }
+{
+    match status {
+        ParsedI32::Is(_) => 0,
+        ParsedI32::Not => 3,
     }
-    if count == 2 {
-        return registration_at(rest, 1);
+}
+
+fn refusal_at(rest: &[u8], n: usize) -> u8
+    requires { ⌜ n ≤ 1 ⌝ }
+    ensures { λ r. ⌜ r ≡ refusalIn (registrationAt n (fields 44 (now (rest .entry)))) ⌝ }
+{
+    status_refusal(number::parse_i32(reader::nth_field(rest, n)))
+}
+
+// As `registration`, with every value forgotten.
+pub(crate) fn refusal(rest: &[u8], longest: usize) -> u8
+    ensures { λ r. ⌜ r ≡ refusalIn (registrationFields (2 ∷ 5 ∷ longest ∷ []) (fields 44 (now (rest .entry)))) ⌝ }
+{
+    let n = status_place(field::field_count(rest, b','), longest);
+    if 1 < n {
+        return 3;
     }
-    if count == 5 {
-        return registration_at(rest, 1);
-    }
-    if count == longest {
-        return registration_at(rest, 1);
-    }
-    NetworkRegistrationAnswer::Refused(3)
+    refusal_at(rest, n)
 }
 
 impl NetworkRegistration {

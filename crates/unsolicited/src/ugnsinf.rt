@@ -9,14 +9,14 @@ use text::number::ParsedU32;
 use text::part;
 use text::reader;
 ghost use mathlib.Core.Path.{_≡_};
-ghost use mathlib.Core.Bool.{true};
+ghost use mathlib.Core.Bool.{true, cond};
 ghost use Prim.Native.Nat.{_+_, _≤_, _<_};
 ghost use lib.ListN.{length};
 ghost use Rattle.text.specs.Bytes.{bytes, same, allDigits};
 ghost use Rattle.text.specs.Field.{fields, nth};
-ghost use Rattle.text.specs.Reading.{read, only};
+ghost use Rattle.text.specs.Reading.{read, only, present, refusalIn};
 ghost use Rattle.numeral.specs.Numeral.{floatOf};
-ghost use Rattle.unsolicited.specs.Date.{figures, dateIn, existing, isFraction};
+ghost use Rattle.unsolicited.specs.Date.{Date, figures, dateIn, dateOf, existing, isFraction};
 ghost use Rattle.unsolicited.specs.Places.{Places};
 ghost use Rattle.unsolicited.specs.Gnss.{fix, floatOrZero, countOrZero, fixOn, fixOf, ugnsinfFields, ugnsinfText};
 ghost use Rattle.unsolicited.specs.says.Gnss.{floatSays, countSays, dateSays, dateOptionSays, fixSays, says, DateKeeps, GnssReportKeeps};
@@ -305,6 +305,110 @@ fn gnss_report(rest: &[u8]) -> GnssReportAnswer
     gnss_fix(rest, &places)
 }
 
+// For sorting: whether the report has a date.
+fn is_dated(rest: &[u8], places: &[usize; 22]) -> bool
+    requires { ⌜ Places (now places) (now rest) ⌝ }
+    ensures { λ r. ⌜ r ≡ present (dateOf (nth 2 (fields 44 (now (rest .entry))))) ⌝ }
+{
+    let t = field_at(rest, places, 2);
+    match DateTime::new(t) {
+        ParsedDateTime::Is(_) => true,
+        ParsedDateTime::Not => false,
+    }
+}
+
+// Whether a field is a numeral; nothing is rounded.
+fn is_float(rest: &[u8], places: &[usize; 22], n: usize) -> bool
+    requires { ⌜ Places (now places) (now rest) × (n < 21) ⌝ }
+    ensures { λ r. ⌜ r ≡ present (floatOf (nth n (fields 44 (now (rest .entry))))) ⌝ }
+{
+    numeral::is_numeral(field_at(rest, places, n))
+}
+
+// The same of one that may be empty.
+fn is_float_or_empty(rest: &[u8], places: &[usize; 22], n: usize) -> bool
+    requires { ⌜ Places (now places) (now rest) × (n < 21) ⌝ }
+    ensures { λ r. ⌜ r ≡ present (floatOrZero (nth n (fields 44 (now (rest .entry))))) ⌝ }
+{
+    let t = field_at(rest, places, n);
+    if t.len() == 0 {
+        return true;
+    }
+    numeral::is_numeral(t)
+}
+
+// Whether a field is a count, or empty.
+fn is_count_or_empty(rest: &[u8], places: &[usize; 22], n: usize) -> bool
+    requires { ⌜ Places (now places) (now rest) × (n < 21) ⌝ }
+    ensures { λ r. ⌜ r ≡ present (countOrZero (nth n (fields 44 (now (rest .entry))))) ⌝ }
+{
+    let t = field_at(rest, places, n);
+    if t.len() == 0 {
+        return true;
+    }
+    match number::parse_u32(t) {
+        ParsedU32::Is(_) => true,
+        ParsedU32::Not => false,
+    }
+}
+
+// 0 where all is readable.
+fn refusal_unless(good: bool) -> u8
+    ensures { λ r. ⌜ r ≡ cond good 0 3 ⌝ }
+{
+    if good {
+        return 0;
+    }
+    3
+}
+
+// The same fields as `fix_on` reads; which date stands before them does not matter.
+fn refusal_on(rest: &[u8], places: &[usize; 22]) -> u8
+    requires { ⌜ Places (now places) (now rest) ⌝ }
+    ensures { λ r. ⌜ ((date : Date) → r ≡ refusalIn (fixOn date (fields 44 (now (rest .entry))))) ⌝ }
+{
+    let latitude = is_float(rest, places, 3);
+    let longitude = is_float(rest, places, 4);
+    let altitude = is_float(rest, places, 5);
+    let speed = is_float_or_empty(rest, places, 6);
+    let course = is_float_or_empty(rest, places, 7);
+    let hdop = is_float_or_empty(rest, places, 10);
+    let pdop = is_float_or_empty(rest, places, 11);
+    let vdop = is_float_or_empty(rest, places, 12);
+    let in_view = is_count_or_empty(rest, places, 14);
+    let gnss = is_count_or_empty(rest, places, 15);
+    let glonass = is_count_or_empty(rest, places, 16);
+    let ratio = is_count_or_empty(rest, places, 18);
+    let position = latitude & longitude & altitude;
+    let motion = speed & course;
+    let dilution = hdop & pdop & vdop;
+    let satellites = in_view & gnss & glonass & ratio;
+    refusal_unless(position & motion & dilution & satellites)
+}
+
+// As `gnss_report`, with every value forgotten.
+fn report_refusal(rest: &[u8]) -> u8
+    ensures { λ r. ⌜ r ≡ refusalIn (ugnsinfFields (fields 44 (now (rest .entry)))) ⌝ }
+{
+    let places = reader::field_starts(rest);
+    if rest.len() < places[20] {
+        return 3;
+    }
+    if places[21] <= rest.len() {
+        return 3;
+    }
+    if !is_one(rest, &places, 0) {
+        return 0;
+    }
+    if !is_one(rest, &places, 1) {
+        return 0;
+    }
+    if !is_dated(rest, &places) {
+        return 13;
+    }
+    refusal_on(rest, &places)
+}
+
 impl GnssReport {
     pub(crate) fn from_checked(line: &[u8]) -> GnssReportAnswer
         ensures { λ r. ⌜ says r ≡ ugnsinfText (now (line .entry)) ⌝ }
@@ -323,5 +427,15 @@ impl GnssReport {
             return GnssReportAnswer::Refused(k);
         }
         GnssReport::from_checked(line)
+    }
+
+    // The answer of `from_checked` with its value forgotten: the number of the refusal, 0 where there is none.
+    pub(crate) fn refusal_checked(line: &[u8]) -> u8
+        ensures { λ r. ⌜ r ≡ refusalIn (ugnsinfText (now (line .entry))) ⌝ }
+    {
+        if !bytes::starts_with(line, b"+UGNSINF: ") {
+            return 3;
+        }
+        report_refusal(part::skip(line, 10))
     }
 }

@@ -3,7 +3,7 @@ use mathlib.Core.Path.{_≡_}
 use Prim.Native.Nat.{ℕ}
 use mathlib.Core.List.{List, [], _∷_}
 use Rattle.text.specs.Reading.{Reading, read, refused}
-use Rattle.at_command.specs.Kind.{Kind, genericOk, simError, writePrompt, closeOk, iccid, signalQuality, systemInfo, operatorInfo, networkTime, downloadInfo, imei, smsMessageFormat, smsMessage}
+use Rattle.at_command.specs.Kind.{Kind, genericOk, simError, writePrompt, closeOk, iccid, signalQuality, systemInfo, operatorInfo, networkTime, downloadInfo, imei, smsMessageFormat, smsMessage, kindAt}
 use Rattle.at_command.specs.Request.{Asked, getSignalQuality, showIccid, getImei, getOperatorInfo, setManualOperator, setAutomaticOperator, getSystemInfo, synchronizeNetworkTime, execute, downloadToFileSystem, getSmsMessageFormat, setSmsMessageFormat, readSms, Writes, answersTo}
 use Rattle.at_command.specs.says.Cmgf.{formatNumber}
 use Rattle.at_command.specs.declared.request.Encoded.{Encoded}
@@ -65,3 +65,7 @@ EncodeKeeps request before r after = Writes request before (encodedSays r) after
 -- and of `awaits`
 abbrev pub AwaitsKeeps : Request → Awaits → Type 0
 AwaitsKeeps request r = awaitsSays r ≡ awaitedBy request
+
+-- and of `at`
+abbrev pub KindAtKeeps : ℕ → ResponseKind → Type 0
+KindAtKeeps place r = kindSays r ≡ kindAt place

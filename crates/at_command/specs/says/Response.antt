@@ -4,7 +4,7 @@ use mathlib.Core.List.{List}
 use Prim.Native.Nat.{ℕ}
 use Rattle.text.specs.Line.{checked}
 use Rattle.text.specs.Reading.{Reading, read, refused}
-use Rattle.at_command.specs.Response.{Response, kindOf, ok, error, prompt, closeOk, iccid, signal, system, operator, time, download, imei, format, message, responseText}
+use Rattle.at_command.specs.Response.{Response, kindOf, ok, error, prompt, closeOk, iccid, signal, system, operator, time, download, imei, format, message, responseText, readingAt}
 use Rattle.at_command.specs.says.Ccid.{cardSays}
 use Rattle.at_command.specs.says.Cmgf.{formatNumber}
 use Rattle.at_command.specs.says.Cmgr.{messageSays}
@@ -44,6 +44,10 @@ says (Refused k) = refused k
 -- the contract of the trial
 abbrev pub ResponseCodeKeeps : List ℕ → ResponseCodeAnswer → Type 0
 ResponseCodeKeeps line r = says r ≡ checked responseText line
+
+-- and of one reader, by its place
+abbrev pub ResponseAtKeeps : ℕ → List ℕ → ResponseCodeAnswer → Type 0
+ResponseAtKeeps place line r = says r ≡ checked (readingAt place) line
 
 -- and of `kind`
 abbrev pub KindKeeps : ResponseCode → ResponseKind → Type 0

@@ -4,7 +4,7 @@ use mathlib.Core.List.{List}
 use Prim.Native.Nat.{ℕ}
 use Rattle.text.specs.Line.{checked}
 use Rattle.text.specs.Reading.{Reading, read, refused}
-use Rattle.unsolicited.specs.Urc.{Unsolicited, gnss, registration, urcText}
+use Rattle.unsolicited.specs.Urc.{Unsolicited, gnss, registration, urcText, urcReadingAt}
 use Rattle.unsolicited.specs.says.Gnss.{reportSays}
 use Rattle.unsolicited.specs.says.Registration.{registrationSays}
 use Rattle.unsolicited.specs.declared.Urc.{Urc}
@@ -22,3 +22,7 @@ says (Refused k) = refused k
 
 abbrev pub UrcKeeps : List ℕ → UrcAnswer → Type 0
 UrcKeeps line r = says r ≡ checked urcText line
+
+-- and of one reader, by its place
+abbrev pub UrcAtKeeps : ℕ → List ℕ → UrcAnswer → Type 0
+UrcAtKeeps place line r = says r ≡ checked (urcReadingAt place) line

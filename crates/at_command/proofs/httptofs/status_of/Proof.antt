@@ -1,9 +1,20 @@
-use Rattle.text.proofs.Codes.{codes}
-use Rattle.at_command.proofs.httptofs.Laws.{or-is, or-zero}
+use borrow.Author.Needs.{needs}
+use Rattle.at_command.proofs.httptofs.Laws.{passed, held}
 use Rattle.at_command.proofs.httptofs.status_of.Statement.{statement}
 use Rattle.at_command.proofs.httptofs.status_of.Tie as tie
 
-ruleset statuses = (codes, or-is, or-zero)
+ruleset statuses = (needs, passed, held)
 
 pub status-of-spec : {M : Type 1} → statement M
-status-of-spec = tie.close (tie.spec (λ c. search codes) (λ c κs. search codes) (λ c. search statuses) (λ c. search statuses) (λ c. search statuses) (λ c. search statuses) (λ c. search statuses) (λ c. search statuses) (λ c. search statuses) (λ c. search statuses) (λ c. search statuses) (λ c. search statuses) (λ c. search statuses) (λ c. search statuses) (λ c. search statuses) (λ c. search statuses))
+status-of-spec =
+    tie.close
+    (tie.spec
+    (λ c. search needs) (λ c κs. search needs) (λ c. search statuses)
+    (λ c. search needs) (λ c κs. search needs) (λ c. search statuses)
+    (λ c. search needs) (λ c κs. search needs) (λ c. search statuses)
+    (λ c. search needs) (λ c κs. search needs) (λ c. search statuses)
+    (λ c. search needs) (λ c κs. search needs) (λ c. search statuses)
+    (λ c. search needs) (λ c κs. search needs) (λ c. search statuses depth 20 fits 9000)
+    (λ c. search needs) (λ c κs. search needs) (λ c. search statuses depth 20 fits 9000)
+    (λ c κs. search needs)
+    (λ c. search statuses depth 20 fits 9000))

@@ -1,8 +1,7 @@
--- `fill` meets its contract: the bytes before the first LF are found, and then laid.
-use native.Mathlib.Omega.{arith}
+-- `fill` meets its contract: what has room is laid, where no prompt can come of it.
 use borrow.Author.Needs.{needs}
 use Rattle.text.proofs.Copying.{least-le}
-use Rattle.desk.proofs.Searching.{fill-none}
+use Rattle.desk.proofs.Searching.{fill-none, fill-room}
 use Rattle.desk.proofs.cutter.fill.Statement.{statement}
 use Rattle.desk.proofs.cutter.fill.Tie as tie
 
@@ -15,14 +14,14 @@ returns-2 c = fill-none _ _ _ _
 returns-3 : tie.Need-returns-3
 returns-3 c = fill-none _ _ _ _
 
-scan-requires : tie.Need-scan-requires
-scan-requires c κs = omega (arith, least-le _ _ _ (c .least .ensures))
-
-put-requires : tie.Need-put-requires
-put-requires c κs = let m = least-le _ _ _ (c .before .before .least .ensures) in search needs
+run-requires : tie.Need-run-requires
+run-requires c κs =
+    let f = c .before .before .before in
+    let g = f .before .before .before in
+    fill-room (g .before .before .before .pre) (g .before .if1 .left) (g .if2 .left) (least-le _ _ _ (c .before .least .ensures)) (f .may-prompt .ensures (c .before .before .if3 .left))
 
 returns-4 : tie.Need-returns-4
-returns-4 c = search needs
+returns-4 c = c .run .ensures .filled
 
 pub fill-spec : {M : Type 1} → statement M
 fill-spec =
@@ -30,10 +29,11 @@ fill-spec =
     (tie.spec
     returns
     returns-2
+    (λ c. search needs)
+    (λ c κs. search needs)
     returns-3
     (λ c. search needs)
     (λ c. search needs)
     (λ c κs. search needs)
-    scan-requires
-    put-requires
+    run-requires
     returns-4)

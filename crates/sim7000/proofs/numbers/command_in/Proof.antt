@@ -8,10 +8,10 @@ returns : tie.Need-returns
 returns c = awaited-none _ (c .if1 .taken)
 
 returns-2 : tie.Need-returns-2
-returns-2 c = awaited-one _ (c .before .before .if1 .left) (c .before .if2 .taken) (c .kind-at .ensures)
+returns-2 c = awaited-one _ (c .before .before .if1 .left) (c .before .if2 .taken) (c .at .ensures)
 
 returns-3 : tie.Need-returns-3
-returns-3 c = awaited-two _ (c .before .before .before .before .if1 .left) (c .before .before .before .if2 .left) (c .before .before .if3 .taken) (c .before .kind-at2 .ensures) (c .kind-at3 .ensures)
+returns-3 c = awaited-two _ (c .before .before .before .before .if1 .left) (c .before .before .before .if2 .left) (c .before .before .if3 .taken) (c .before .at2 .ensures) (c .at3 .ensures)
 
 returns-4 : tie.Need-returns-4
 returns-4 c = awaited-past _ (c .before .before .if1 .left) (c .before .if2 .left) (c .if3 .left)

@@ -1,12 +1,12 @@
 -- The loop's invariant: the count so far and that of the rest make the whole. Assumes nothing.
-use Rattle.text.proofs.bytes.count_byte.Statement.{statement}
-use Rattle.text.proofs.bytes.count_byte.Tie as tie
 use mathlib.Core.Path.{_≡_}
 use Prim.Native.Nat.{_+_, _-_, _≤_}
 use lib.ListN.{length, drop}
 use borrow.Author.Needs.{needs}
 use Rattle.text.specs.Bytes.{countOf}
-use Rattle.text.proofs.Finding.{count-hit, count-miss, count-end}
+use Rattle.text.proofs.Finding.{count-fits, count-few, count-more, count-end}
+use Rattle.text.proofs.bytes.count_byte.Statement.{statement}
+use Rattle.text.proofs.bytes.count_byte.Tie as tie
 
 abbrev Inv-loop : tie.InvT-loop
 Inv-loop s b n₀ i₀ n i = (n ≤ i) × (n + countOf b (drop i s) ≡ countOf b s)
@@ -20,13 +20,14 @@ count-byte-spec =
     (tie.spec
     Inv-loop
     μ-loop
+    (λ c κs. search needs)
     (λ c. search needs)
     (λ c. search needs)
     (λ c. search needs)
     (λ c. search needs)
     (λ c. search needs)
-    (λ c. search (needs, count-hit))
+    (λ c. search (needs, count-fits))
     (λ c. search needs)
     (λ c. search needs)
-    (λ c. search (needs, count-miss))
+    (λ c. search (needs, count-few, count-more))
     (λ c. search (needs, count-end)))
