@@ -13,6 +13,45 @@ use std::io::{BufRead, BufReader, BufWriter, Write};
 use std::process::{Child, Command, Stdio};
 use texts::Rng;
 
+/// A run in which a reader or a request had fewer accepted inputs inside the domain than this fails: it has compared too little.
+const LEAST: usize = 20;
+
+const READERS: [&str; 17] = [
+    "GenericOk",
+    "SimError",
+    "WritePrompt",
+    "CloseOk",
+    "Iccid",
+    "SignalQuality",
+    "SystemInfo",
+    "OperatorInfo",
+    "NetworkTime",
+    "DownloadInfo",
+    "Imei",
+    "SmsMessageFormat",
+    "SmsMessage",
+    "GnssReport",
+    "CReg",
+    "CGReg",
+    "CEReg",
+];
+
+const REQUESTS: [&str; 13] = [
+    "GetSignalQuality",
+    "ShowIccid",
+    "GetImei",
+    "GetOperatorInfo",
+    "SetManualOperator",
+    "SetAutomaticOperator",
+    "GetSystemInfo",
+    "SynchronizeNetworkTime",
+    "Execute",
+    "DownloadToFileSystem",
+    "GetSmsMessageFormat",
+    "SetSmsMessageFormat",
+    "ReadSms",
+];
+
 #[derive(Clone, Copy, PartialEq)]
 enum Kind {
     Lines,
@@ -24,6 +63,10 @@ impl Kind {
         if self == Kind::Lines { "lines" } else { "requests" }
     }
 
+    fn of(self) -> &'static str {
+        if self == Kind::Lines { "readers" } else { "requests" }
+    }
+
     fn fixed(self) -> Vec<Vec<u8>> {
         if self == Kind::Lines { boundary::lines() } else { boundary::requests() }
     }
@@ -32,6 +75,24 @@ impl Kind {
         match self {
             Kind::Lines => domain::line(input.strip_suffix(b"\r").unwrap_or(input)),
             Kind::Requests => domain::request(input),
+        }
+    }
+
+    /// The readers, or the requests, each of which a run must have asked about.
+    fn names(self) -> &'static [&'static str] {
+        if self == Kind::Lines { &READERS } else { &REQUESTS }
+    }
+
+    /// Which of them an input is for that both sides answered alike; `answer` is none of a refusal.
+    fn name_of(self, input: &[u8], answer: &[u8]) -> String {
+        match self {
+            Kind::Requests => String::from_utf8_lossy(input.split(|&byte| byte == b'\t').next().unwrap_or(input)).to_string(),
+            Kind::Lines if answer.starts_with(b"NetworkRegistration ") => match input {
+                [b'+', b'C', b'R', ..] => "CReg".to_string(),
+                [b'+', b'C', b'G', ..] => "CGReg".to_string(),
+                _ => "CEReg".to_string(),
+            },
+            Kind::Lines => first_words(self, answer),
         }
     }
 
@@ -142,6 +203,8 @@ struct Tally {
     wrong: usize,
     entries: BTreeMap<&'static str, usize>,
     answers: BTreeMap<String, usize>,
+    /// By reader or request: the inputs inside the domain that both sides accept, and answer alike.
+    accepted: BTreeMap<String, usize>,
 }
 
 fn first_words(kind: Kind, answer: &[u8]) -> String {
@@ -162,7 +225,12 @@ fn judge(tally: &mut Tally, kind: Kind, input: &[u8], rust: &[u8], ours: &[u8]) 
     }
     let Outside { entry, rust: said, ours: owed } = match outside {
         Some(outside) => outside,
-        None if rust == ours && rust != b"stopped" => return None,
+        None if rust == ours && rust != b"stopped" => {
+            if !rust.starts_with(b"refused ") && rust != b"unknown" {
+                *tally.accepted.entry(kind.name_of(input, rust)).or_insert(0) += 1;
+            }
+            return None;
+        }
         None => return Some("inside the domain of equality, under no entry".to_string()),
     };
     if rust != ours {
@@ -202,7 +270,13 @@ fn run(kind: Kind, seed: u64, count: usize) -> bool {
     let answers: Vec<String> = tally.answers.iter().map(|(answer, count)| format!("{} {}", answer, count)).collect();
     println!("  the Rust's answers: {}", answers.join(", "));
     println!("  differences that no entry explains: {}", tally.wrong);
-    tally.wrong == 0
+    let accepted = |name: &&&str| tally.accepted.get(**name).copied().unwrap_or(0);
+    let least = kind.names().iter().min_by_key(accepted).unwrap();
+    println!("  accepted inside the domain, of {} {}: each at least {} times ({})", kind.names().len(), kind.of(), accepted(&least), least);
+    for name in kind.names().iter().filter(|name| accepted(name) < LEAST) {
+        println!("  too little was compared: {} of {}, where {} are the least", accepted(&name), name, LEAST);
+    }
+    tally.wrong == 0 && accepted(&least) >= LEAST
 }
 
 /// The fixed list, what the documents make our side answer to it, and where that is not the Rust's answer.

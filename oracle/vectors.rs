@@ -1,7 +1,18 @@
-//! vectors FOLDER: writes the lists of number and UTF-8 vectors, each with the answer of Rust's own library; see README.md.
+//! vectors FOLDER: writes the lists of vectors: numbers and UTF-8, each with the answer of Rust's own library, and texts that are handed out of a line, with the
+//! published Rust's; see README.md.
 
+#[allow(warnings)]
+#[path = "../target/oracle/published/at_command/mod.rs"]
+mod at_command;
+#[allow(dead_code)]
+mod boundary;
+#[allow(dead_code)]
+mod domain;
+mod handed;
 #[allow(dead_code)]
 mod texts;
+#[path = "../target/oracle/published/util.rs"]
+mod util;
 
 use std::fmt::Write;
 use std::str::FromStr;
@@ -61,9 +72,56 @@ fn floats(list: &mut List) {
     }
 }
 
-/// Refused here by document 01's rule, read by the Rust: the fourth field is its answer.
+/// The fixed list's lines for the readers whose texts are handed out, each CR at an end taken off.
+fn handed_lines() -> Vec<(&'static str, Vec<u8>)> {
+    let lines = boundary::lines();
+    // the program that replays them has room for 4096 bytes
+    let bare = lines.iter().map(|line| line.strip_suffix(b"\r").unwrap_or(line).to_vec()).filter(|line| line.len() <= 4096);
+    let asked = bare.flat_map(|line| handed::KINDS.iter().filter(|kind| handed::concerns(kind, &line)).map(|&kind| (kind, line.clone())).collect::<Vec<_>>());
+    // and a few of others, which each of these readers refuses
+    let others = ["", "OK", "+COPS: ", "+CNTP", "+CMGR: 1", "+HTTPTOFS:", "490154203237518", "+CSQ: 31,99"];
+    asked.chain(others.iter().flat_map(|other| handed::KINDS.iter().map(|&kind| (kind, other.as_bytes().to_vec())))).collect()
+}
+
+/// The inside of the domain; by rule are the rest.
+fn handed(list: &mut List) {
+    for (kind, line) in handed_lines() {
+        if domain::line(&line).is_none() {
+            list.add(kind, &line, &handed::theirs(kind, &line));
+        }
+    }
+}
+
+/// With other texts lent than the Rust's own two, `2` and `"64304"`, of which the second stands for a name that is not in the line.
+const LENT: [(&str, &str); 8] = [
+    ("+COPS: 0", "64304"),
+    ("+COPS: 1,0", "64304"),
+    ("+COPS: 4,,", "refused 3"),
+    ("+COPS: 2,1,", ""),
+    ("+COPS: 0,0,\"Tele2\"", "Tele2"),
+    ("+COPS: 0,0,\"\"64304\"\",7", "64304"),
+    ("+COPS: 3", "refused 3"),
+    ("+CSQ: 1,1", "refused 3"),
+];
+
+/// Answered here by document 01's and 02's rules, and otherwise by the Rust: the fourth field is its answer, `none` where it has no such call.
 fn by_rule() -> String {
     let mut out = String::new();
+    let mut seen = std::collections::HashSet::new();
+    for (kind, line) in handed_lines() {
+        if let Some(outside) = domain::line(&line) {
+            let hex: String = line.iter().map(|byte| format!("{:02x}", byte)).collect();
+            let vector = format!("{}\t{}\t{}\t{}\n", kind, hex, handed::ours(&outside.ours), handed::theirs(kind, &line));
+            if seen.insert(vector.clone()) {
+                out += &vector;
+            }
+        }
+    }
+    for (line, name) in LENT {
+        let hex: String = line.bytes().map(|byte| format!("{:02x}", byte)).collect();
+        let ours = if name.starts_with("refused") { name.to_string() } else { handed::text(name.as_bytes()) };
+        writeln!(out, "lent\t{}\t{}\tnone", hex, ours).unwrap();
+    }
     for text in FLOATS_BY_RULE {
         assert!(!desk_numeral(text));
         assert_ne!(float(text), "none", "{}", text);
@@ -151,6 +209,8 @@ fn main() -> std::io::Result<()> {
     list.hexadecimals("x32", u32::MAX as u128, |text| u32::from_str_radix(text, 16).ok());
     floats(&mut list);
     utf8(&mut list);
+    std::panic::set_hook(Box::new(|_| {}));
+    handed(&mut list);
     let count = list.text.lines().count();
     let rule = by_rule();
     println!("vectors {}, by rule {}", count, rule.lines().count());

@@ -53,4 +53,6 @@ extern "C" {
         told: *mut [u64; 5],
     ) -> u8;
     pub fn sim7000_reset(state: *mut [u64; 4]);
+    pub fn sim7000_is_open(state: *const [u64; 4]) -> u8;
+    pub fn sim7000_version() -> u32;
 }

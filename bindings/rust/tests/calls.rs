@@ -6,9 +6,15 @@ fn read(line: &str) -> Line<'_> {
     Line::from_line(line.as_bytes()).unwrap()
 }
 
+/// A stray with its number, or with none at 0.
+fn strayed(number: u8) -> Event {
+    Event::Stray((number != 0).then_some(Refusal(number)))
+}
+
 #[test]
 fn lines_of_the_documents() {
-    let signal = |strength, quality| Line::Response(ResponseCode::SignalQuality(SignalQuality { signal_strength: strength, signal_quality: quality }));
+    let signal =
+        |strength, quality| Line::Response(ResponseCode::SignalQuality(SignalQuality { signal_strength: strength, signal_quality: quality }));
     assert_eq!(read("+CSQ: 0,99"), signal(Some(0.0), None));
     assert_eq!(read("+CSQ: 31,99"), signal(Some(100.0), None));
     assert_eq!(Line::from_line(b"+CSQ: 32,0"), Err(Refusal(3)));
@@ -18,19 +24,21 @@ fn lines_of_the_documents() {
     assert_eq!(read("+CGREG: 2,1,\"00A5\",\"01B2\",7,a,b,c"), registered(RegistrationStatus::RegisteredHome, Some(165), Some(434)));
     assert_eq!(read("+HTTPTOFS: 200,x"), Line::Response(ResponseCode::DownloadInfo(DownloadInfo { status_code: StatusCode::Ok, data_length: 0 })));
     let imei = |digits, is_version_number| Line::Response(ResponseCode::Imei(Imei { imei: digits, is_version_number }));
-    assert_eq!(read("490154203237518"), imei(b"490154203237518", false));
-    assert_eq!(read("4901542032375181"), imei(b"4901542032375181", true));
+    assert_eq!(read("490154203237518"), imei("490154203237518", false));
+    assert_eq!(read("4901542032375181"), imei("4901542032375181", true));
     assert_eq!(Line::from_line(b"490154203237517"), Err(Refusal(3)));
     assert_eq!(Line::from_line(b"49015420323751810"), Err(Refusal(3)));
     assert_eq!(
         read("+COPS: 0"),
-        Line::Response(ResponseCode::OperatorInfo(OperatorInfo { mode: OperatorMode::Automatic, format: OperatorFormat::Long, operator_name: b"" }))
+        Line::Response(ResponseCode::OperatorInfo(OperatorInfo { mode: OperatorMode::Automatic, format: OperatorFormat::Long, operator_name: "" }))
     );
     assert_eq!(read("+UGNSINF: 0,,,,,,,,,,,,,,,,,,,,"), Line::Unsolicited(Urc::GnssReport(GnssReport::NotEnabled)));
     let date_time = DateTime { year: 2000, month: 2, day: 29, hour: 23, minute: 59, second: 58 };
     for date in ["20000229235958", "20000229235958.5"] {
         let line = fix(date, "59.5");
-        assert!(matches!(read(&line), Line::Unsolicited(Urc::GnssReport(GnssReport::Fix(fix))) if fix.date_time == date_time && fix.latitude == 59.5));
+        assert!(
+            matches!(read(&line), Line::Unsolicited(Urc::GnssReport(GnssReport::Fix(fix))) if fix.date_time == date_time && fix.latitude == 59.5)
+        );
     }
 }
 
@@ -45,7 +53,8 @@ fn refusals_of_lines() {
     assert_eq!(Line::from_line(b"\xff"), Err(Refusal(2)));
     assert_eq!(Line::from_line(b""), Err(Refusal(3)));
     assert_eq!(Line::from_line(b"+CMGR: 0,\"123456789012345678901\",,"), Err(Refusal(4)));
-    for date in ["", "2024010203040", "20230229123456.000", "20240102030405.", "20240102030460", "19791231235959", "21000101000000", "+0240102030405"] {
+    for date in ["", "2024010203040", "20230229123456.000", "20240102030405.", "20240102030460", "19791231235959", "21000101000000", "+0240102030405"]
+    {
         for latitude in ["59.5", "x"] {
             assert_eq!(Line::from_line(fix(date, latitude).as_bytes()), Err(Refusal(13)));
             assert_eq!(sort_line(fix(date, latitude).as_bytes()), Err(Refusal(13)));
@@ -85,7 +94,7 @@ fn heard(desk: &mut Desk, bytes: &[u8], chunk: usize) -> Vec<Told> {
     for mut rest in bytes.chunks(chunk) {
         while !rest.is_empty() {
             let fed = desk.feed(rest, &mut text).unwrap();
-            all.extend(fed.heard.map(|Heard { event, ordinal, line }| (event, ordinal, line.to_vec())));
+            all.extend(fed.heard.map(|Heard { event, ordinal, line, .. }| (event, ordinal, line.to_vec())));
             rest = &rest[fed.taken..];
         }
     }
@@ -95,7 +104,7 @@ fn heard(desk: &mut Desk, bytes: &[u8], chunk: usize) -> Vec<Told> {
 /// The same of a desk with AT+CSQ open.
 fn events(bytes: &[u8], chunk: usize) -> Vec<Told> {
     let (mut desk, mut out) = (Desk::new(), [0; 64]);
-    assert_eq!(desk.open(&Request::GetSignalQuality, &mut out), Ok(&b"AT+CSQ\r"[..]));
+    assert_eq!(desk.open(Request::GetSignalQuality, &mut out), Ok(&b"AT+CSQ\r"[..]));
     assert!(desk.is_open());
     heard(&mut desk, bytes, chunk)
 }
@@ -103,7 +112,7 @@ fn events(bytes: &[u8], chunk: usize) -> Vec<Told> {
 /// The same with its echo awaited, and whether the command is open after them. The buffer that it was written to is overwritten first.
 fn echo_events(bytes: &[u8], chunk: usize) -> (Vec<Told>, bool) {
     let (mut desk, mut out) = (Desk::new(), [0; 64]);
-    assert_eq!(desk.open_echo(&Request::GetSignalQuality, &mut out), Ok(&b"AT+CSQ\r"[..]));
+    assert_eq!(desk.open_echo(Request::GetSignalQuality, &mut out), Ok(&b"AT+CSQ\r"[..]));
     assert!(desk.is_open());
     out.fill(b'x');
     let all = heard(&mut desk, bytes, chunk);
@@ -130,9 +139,9 @@ fn the_other_events() {
     bytes.push(b'\n');
     let expected = vec![
         line(Event::Failed, 1, b"ERROR"),
-        line(Event::Stray(0), 2, b"OK"),
-        line(Event::Stray(2), 3, b"\xff"),
-        line(Event::Stray(0), 4, b"> "),
+        line(strayed(0), 2, b"OK"),
+        line(strayed(2), 3, b"\xff"),
+        line(strayed(0), 4, b"> "),
         line(Event::Overlong, 5, b""),
     ];
     assert_eq!(events(&bytes, 5), expected);
@@ -144,14 +153,14 @@ fn the_other_events() {
 fn what_answers_gsn() {
     let answered = |number: &[u8]| {
         let (mut desk, mut out) = (Desk::new(), [0; 64]);
-        assert!(desk.open(&Request::GetImei, &mut out).is_ok());
+        assert!(desk.open(Request::GetImei, &mut out).is_ok());
         heard(&mut desk, &[number, b"\r\nOK\r\n"].concat(), 5)
     };
     for number in [&b"490154203237518"[..], b"4901542032375180", b"4901542032375181"] {
         assert_eq!(answered(number), [line(Event::Taken, 1, number), line(Event::Done, 2, b"OK")]);
     }
     for number in [&b"490154203237517"[..], b"49015420323751", b"49015420323751810"] {
-        assert_eq!(answered(number), [line(Event::Stray(3), 1, number), line(Event::Short, 2, b"OK")]);
+        assert_eq!(answered(number), [line(strayed(3), 1, number), line(Event::Short, 2, b"OK")]);
     }
 }
 
@@ -160,7 +169,7 @@ fn what_answers_gsn() {
 fn a_fix_without_a_date() {
     let (bad, good) = (fix("20230229123456.000", "59.5"), fix("20240229123456.000", "59.5"));
     let bytes = format!("{bad}\r\n{good}\r\nAT+CSQ\r\n{bad}\r\n+CSQ: 31,99\r\n{bad}\r\nOK\r\n{bad}\r\n");
-    let stray = |ordinal| line(Event::Stray(13), ordinal, bad.as_bytes());
+    let stray = |ordinal| line(strayed(13), ordinal, bad.as_bytes());
     let expected = |echo| {
         vec![
             stray(1),
@@ -173,7 +182,7 @@ fn a_fix_without_a_date() {
             stray(8),
         ]
     };
-    assert_eq!(events(bytes.as_bytes(), 7), expected(Event::Stray(3)));
+    assert_eq!(events(bytes.as_bytes(), 7), expected(strayed(3)));
     assert_eq!(echo_events(bytes.as_bytes(), 7), (expected(Event::Echo), false));
 }
 
@@ -182,8 +191,8 @@ fn a_fix_without_a_date() {
 fn a_late_reply_in_every_cut() {
     let bytes = b"\r\n+CSQ: 5,0\r\n\r\nOK\r\nAT+CSQ\r\r\n\r\n+CEREG: 5\r\n\r\n+CSQ: 31,99\r\n\r\nOK\r\n";
     let expected = vec![
-        line(Event::Stray(0), 1, b"+CSQ: 5,0"),
-        line(Event::Stray(0), 2, b"OK"),
+        line(strayed(0), 1, b"+CSQ: 5,0"),
+        line(strayed(0), 2, b"OK"),
         line(Event::Echo, 3, b"AT+CSQ\r"),
         line(Event::Unsolicited, 4, b"+CEREG: 5"),
         line(Event::Taken, 5, b"+CSQ: 31,99"),
@@ -204,7 +213,7 @@ fn the_echo_with_and_without_its_cr() {
         [b"AT+CS", b"A", b"AT+CSQ?", b"AT+CSQ\r\r", b"AT+CSQ\r?", b"at+csq", b" AT+CSQ", b"AT+CSQ ", b"AT+CSR", b"BT+CSQ\r", b"AT+CSQ\0"];
     for other in others {
         let bytes = [other, b"\r\n"].concat();
-        assert_eq!(echo_events(&bytes, bytes.len()), (vec![line(Event::Stray(3), 1, other)], true), "{}", other.escape_ascii());
+        assert_eq!(echo_events(&bytes, bytes.len()), (vec![line(strayed(3), 1, other)], true), "{}", other.escape_ascii());
     }
 }
 
@@ -224,16 +233,16 @@ fn before_the_echo_and_after_it() {
     let (mut bytes, mut expected) = (Vec::new(), Vec::new());
     for (ordinal, (stray, number)) in (1..).zip(strays) {
         bytes.extend([stray, b"\r\n"].concat());
-        expected.push(line(Event::Stray(number), ordinal, stray));
+        expected.push(line(strayed(number), ordinal, stray));
     }
     bytes.extend(b"> \r\n+CEREG: 5\r\n");
     bytes.extend([b'a'; 257]);
     bytes.extend(b"\r\n");
-    expected.extend([line(Event::Stray(0), 10, b"> "), line(Event::Unsolicited, 11, b"+CEREG: 5"), line(Event::Overlong, 12, b"")]);
+    expected.extend([line(strayed(0), 10, b"> "), line(Event::Unsolicited, 11, b"+CEREG: 5"), line(Event::Overlong, 12, b"")]);
     assert_eq!(echo_events(&bytes, 1), (expected.clone(), true));
     bytes.extend(b"AT+CSQ\r\r\nAT+CSQ\r\r\nAT+CSQ\r\n");
-    expected.extend([line(Event::Echo, 13, b"AT+CSQ\r"), line(Event::Stray(3), 14, b"AT+CSQ\r"), line(Event::Stray(3), 15, b"AT+CSQ")]);
-    let all = vec![line(Event::Taken, 16, b"+CSQ: 31,99"), line(Event::Done, 17, b"OK"), line(Event::Stray(3), 18, b"AT+CSQ\r")];
+    expected.extend([line(Event::Echo, 13, b"AT+CSQ\r"), line(strayed(3), 14, b"AT+CSQ\r"), line(strayed(3), 15, b"AT+CSQ")]);
+    let all = vec![line(Event::Taken, 16, b"+CSQ: 31,99"), line(Event::Done, 17, b"OK"), line(strayed(3), 18, b"AT+CSQ\r")];
     for (answers, told) in [
         (&b"+CSQ: 31,99\r\nOK\r\nAT+CSQ\r\r\n"[..], all),
         (b"ERROR\r\n", vec![line(Event::Failed, 16, b"ERROR")]),
@@ -248,63 +257,63 @@ fn before_the_echo_and_after_it() {
 #[test]
 fn the_longest_command_comes_back() {
     let (mut desk, mut out) = (Desk::new(), [0; 210]);
-    let command = desk.open_echo(&Request::DownloadToFileSystem { url: &[b'"'; 64], file_path: &[b'"'; 32] }, &mut out).unwrap().to_vec();
+    let command = desk.open_echo(Request::DownloadToFileSystem { url: &[b'"'; 64], file_path: &[b'"'; 32] }, &mut out).unwrap().to_vec();
     assert_eq!(command.len(), 210);
     let (mut long, mut other) = (command.clone(), command.clone());
     long.insert(209, b'"');
     other[208] = b'x';
     let bytes = [&long, &b"\r\n"[..], &other, b"\r\n", &command[..209], b"\r\n", &command, b"\r\n"].concat();
-    let expected = [line(Event::Stray(3), 1, &long), line(Event::Stray(3), 2, &other), line(Event::Echo, 3, &command[..209]), line(Event::Stray(3), 4, &command)];
+    let expected = [line(strayed(3), 1, &long), line(strayed(3), 2, &other), line(Event::Echo, 3, &command[..209]), line(strayed(3), 4, &command)];
     assert_eq!(heard(&mut desk, &bytes, 64), expected);
     // of the long command only bytes behind the next one are left, and they change nothing
     desk.reset();
-    assert!(desk.open_echo(&Request::GetSignalQuality, &mut out).is_ok());
-    let expected = [line(Event::Stray(0), 1, b"+CSQ: 5,0"), line(Event::Echo, 2, b"AT+CSQ"), line(Event::Taken, 3, b"+CSQ: 31,99")];
+    assert!(desk.open_echo(Request::GetSignalQuality, &mut out).is_ok());
+    let expected = [line(strayed(0), 1, b"+CSQ: 5,0"), line(Event::Echo, 2, b"AT+CSQ"), line(Event::Taken, 3, b"+CSQ: 31,99")];
     assert_eq!(heard(&mut desk, b"+CSQ: 5,0\nAT+CSQ\n+CSQ: 31,99\n", 64), expected);
 }
 
 #[test]
 fn a_plain_open_awaits_no_echo() {
     let (mut desk, mut out) = (Desk::new(), [0; 64]);
-    assert!(desk.open_echo(&Request::GetSignalQuality, &mut out).is_ok());
+    assert!(desk.open_echo(Request::GetSignalQuality, &mut out).is_ok());
     desk.reset();
-    assert_eq!(heard(&mut desk, b"AT+CSQ\n", 64), [line(Event::Stray(3), 1, b"AT+CSQ")]);
-    assert!(desk.open(&Request::GetSignalQuality, &mut out).is_ok());
-    assert_eq!(heard(&mut desk, b"AT+CSQ\n+CSQ: 31,99\n", 64), [line(Event::Stray(3), 1, b"AT+CSQ"), line(Event::Taken, 2, b"+CSQ: 31,99")]);
+    assert_eq!(heard(&mut desk, b"AT+CSQ\n", 64), [line(strayed(3), 1, b"AT+CSQ")]);
+    assert!(desk.open(Request::GetSignalQuality, &mut out).is_ok());
+    assert_eq!(heard(&mut desk, b"AT+CSQ\n+CSQ: 31,99\n", 64), [line(strayed(3), 1, b"AT+CSQ"), line(Event::Taken, 2, b"+CSQ: 31,99")]);
 }
 
 #[test]
 fn refusals_of_an_open_in_echo_mode() {
     let (mut desk, mut out, mut text) = (Desk::new(), [7; 64], [0; 256]);
-    assert_eq!(desk.feed(b"+C", &mut text), Ok(Fed { taken: 2, heard: None }));
-    assert_eq!(desk.open_echo(&Request::GetImei, &mut out), Err(Refusal(9)));
+    assert_eq!(desk.feed(b"+C", &mut text).map(|fed| (fed.taken, fed.heard)), Ok((2, None)));
+    assert_eq!(desk.open_echo(Request::GetImei, &mut out), Err(Refusal(9)));
     desk.reset();
-    assert_eq!(desk.open_echo(&Request::SetManualOperator { plmn: b"6430411" }, &mut out), Err(Refusal(5)));
-    assert_eq!(desk.open_echo(&Request::SetManualOperator { plmn: b"64304\"" }, &mut out), Err(Refusal(12)));
-    assert_eq!(desk.open_echo(&Request::DownloadToFileSystem { url: b"\n", file_path: b"" }, &mut out), Err(Refusal(6)));
-    assert_eq!(desk.open_echo(&Request::GetImei, &mut out[..6]), Err(Refusal(7)));
+    assert_eq!(desk.open_echo(Request::SetManualOperator { plmn: b"6430411" }, &mut out), Err(Refusal(5)));
+    assert_eq!(desk.open_echo(Request::SetManualOperator { plmn: b"64304\"" }, &mut out), Err(Refusal(12)));
+    assert_eq!(desk.open_echo(Request::DownloadToFileSystem { url: b"\n", file_path: b"" }, &mut out), Err(Refusal(6)));
+    assert_eq!(desk.open_echo(Request::GetImei, &mut out[..6]), Err(Refusal(7)));
     assert_eq!(out, [7; 64]);
     assert!(!desk.is_open());
-    assert_eq!(desk.open_echo(&Request::GetImei, &mut out[..7]), Ok(&b"AT+GSN\r"[..]));
+    assert_eq!(desk.open_echo(Request::GetImei, &mut out[..7]), Ok(&b"AT+GSN\r"[..]));
     // refused, it leaves AT+GSN awaited
-    assert_eq!(desk.open_echo(&Request::GetSignalQuality, &mut out), Err(Refusal(8)));
-    assert_eq!(desk.open(&Request::GetSignalQuality, &mut out), Err(Refusal(8)));
-    assert_eq!(heard(&mut desk, b"AT+CSQ\nAT+GSN\n", 64), [line(Event::Stray(3), 1, b"AT+CSQ"), line(Event::Echo, 2, b"AT+GSN")]);
+    assert_eq!(desk.open_echo(Request::GetSignalQuality, &mut out), Err(Refusal(8)));
+    assert_eq!(desk.open(Request::GetSignalQuality, &mut out), Err(Refusal(8)));
+    assert_eq!(heard(&mut desk, b"AT+CSQ\nAT+GSN\n", 64), [line(strayed(3), 1, b"AT+CSQ"), line(Event::Echo, 2, b"AT+GSN")]);
 }
 
 #[test]
 fn refusals_of_a_desk() {
     let (mut desk, mut out, mut text) = (Desk::new(), [0; 64], [0; 256]);
     assert_eq!(desk.feed(b"+C", &mut text[..255]), Err(Refusal(10)));
-    assert_eq!(desk.feed(b"+C", &mut text), Ok(Fed { taken: 2, heard: None }));
-    assert_eq!(desk.open(&Request::GetImei, &mut out), Err(Refusal(9)));
+    assert_eq!(desk.feed(b"+C", &mut text).map(|fed| (fed.taken, fed.heard)), Ok((2, None)));
+    assert_eq!(desk.open(Request::GetImei, &mut out), Err(Refusal(9)));
     desk.reset();
-    assert!(desk.open(&Request::GetImei, &mut out).is_ok());
-    assert_eq!(desk.open(&Request::GetImei, &mut out), Err(Refusal(8)));
+    assert!(desk.open(Request::GetImei, &mut out).is_ok());
+    assert_eq!(desk.open(Request::GetImei, &mut out), Err(Refusal(8)));
     desk.reset();
     assert!(!desk.is_open());
-    assert_eq!(desk.open(&Request::GetImei, &mut out[..3]), Err(Refusal(7)));
-    assert_eq!(desk.open(&Request::SetManualOperator { plmn: b"64304\"" }, &mut out), Err(Refusal(12)));
+    assert_eq!(desk.open(Request::GetImei, &mut out[..3]), Err(Refusal(7)));
+    assert_eq!(desk.open(Request::SetManualOperator { plmn: b"64304\"" }, &mut out), Err(Refusal(12)));
     assert!(!desk.is_open());
 }
 
@@ -314,11 +323,11 @@ fn ordinals_in_every_cut() {
     let bytes = [&b"\r\n\n+CEREG: 5\r\n> \r\n> +CEREG: 1\r\n\r\n"[..], &[b'a'; 257], b"\r\n\r\r\nOK\r\n"].concat();
     let expected = vec![
         line(Event::Unsolicited, 1, b"+CEREG: 5"),
-        line(Event::Stray(0), 2, b"> "),
-        line(Event::Stray(0), 3, b"> "),
+        line(strayed(0), 2, b"> "),
+        line(strayed(0), 3, b"> "),
         line(Event::Unsolicited, 4, b"+CEREG: 1"),
         line(Event::Overlong, 5, b""),
-        line(Event::Stray(3), 6, b"\r"),
+        line(strayed(3), 6, b"\r"),
         line(Event::Short, 7, b"OK"),
     ];
     for chunk in 1..=bytes.len() {
@@ -335,10 +344,18 @@ fn next(desk: &mut Desk) -> u32 {
 
 type Opens = for<'o> fn(&mut Desk, &Request<'_>, &'o mut [u8]) -> Result<&'o [u8], Refusal>;
 
+fn open<'o>(desk: &mut Desk, request: &Request<'_>, out: &'o mut [u8]) -> Result<&'o [u8], Refusal> {
+    desk.open(request, out)
+}
+
+fn open_echo<'o>(desk: &mut Desk, request: &Request<'_>, out: &'o mut [u8]) -> Result<&'o [u8], Refusal> {
+    desk.open_echo(request, out)
+}
+
 /// At a new desk, at an accepted open in either mode and at a reset; nowhere else.
 #[test]
 fn where_the_count_begins() {
-    for opens in [Desk::open as Opens, Desk::open_echo] {
+    for opens in [open as Opens, open_echo] {
         let (mut desk, mut out) = (Desk::new(), [0; 64]);
         assert_eq!([next(&mut desk), next(&mut desk)], [1, 2]);
         assert_eq!(opens(&mut desk, &Request::SetManualOperator { plmn: b"6430411" }, &mut out), Err(Refusal(5)));
@@ -351,7 +368,7 @@ fn where_the_count_begins() {
         assert_eq!(next(&mut desk), 6);
         assert!(heard(&mut desk, b"\r\n+C", 3).is_empty());
         assert_eq!(opens(&mut desk, &Request::GetImei, &mut out), Err(Refusal(9)));
-        assert_eq!(heard(&mut desk, b"\r\n", 2), [line(Event::Stray(3), 7, b"+C")]);
+        assert_eq!(heard(&mut desk, b"\r\n", 2), [line(strayed(3), 7, b"+C")]);
 
         assert!(opens(&mut desk, &Request::GetImei, &mut out).is_ok());
         assert_eq!([next(&mut desk), next(&mut desk)], [1, 2]);
@@ -359,7 +376,7 @@ fn where_the_count_begins() {
         assert_eq!(next(&mut desk), 3);
         assert!(heard(&mut desk, b"+CSQ", 4).is_empty());
         desk.reset();
-        assert_eq!(heard(&mut desk, b": 5,0\r\n", 7), [line(Event::Stray(3), 1, b": 5,0")]);
+        assert_eq!(heard(&mut desk, b": 5,0\r\n", 7), [line(strayed(3), 1, b": 5,0")]);
         assert_eq!(next(&mut desk), 2);
 
         // the last awaited answer closes the command, and the count goes on; the next open begins it anew

@@ -1,13 +1,9 @@
 //! The lists that the programs `lines` and `commands` replay in the gate, through the wrappers: every line and request, and the same answers.
 
-use sim7000::*;
+mod common;
 
-fn list(crate_and_file: &str) -> Vec<Vec<u8>> {
-    let path = format!("{}/../../crates/{}", env!("CARGO_MANIFEST_DIR"), crate_and_file);
-    let mut bytes = std::fs::read(&path).unwrap_or_else(|why| panic!("{}: {}", path, why));
-    assert_eq!(bytes.pop(), Some(b'\n'));
-    bytes.split(|&byte| byte == b'\n').map(|line| line.to_vec()).collect()
-}
+use common::{list, request};
+use sim7000::*;
 
 fn or_none<T>(value: Option<T>, show: impl Fn(T) -> Vec<u8>) -> Vec<u8> {
     value.map_or(b"none".to_vec(), show)
@@ -21,8 +17,8 @@ fn count<T: ToString>(value: T) -> Vec<u8> {
     value.to_string().into_bytes()
 }
 
-fn quoted(text: &[u8]) -> Vec<u8> {
-    [b"\"", text, b"\""].concat()
+fn quoted(text: &str) -> Vec<u8> {
+    format!("\"{}\"", text).into_bytes()
 }
 
 fn words(words: &[Vec<u8>]) -> Vec<u8> {
@@ -55,7 +51,11 @@ fn response(code: ResponseCode) -> Vec<u8> {
         ResponseCode::DownloadInfo(info) => named("DownloadInfo", vec![debug(info.status_code), count(info.data_length)]),
         ResponseCode::Imei(Imei { imei, is_version_number }) => named(if is_version_number { "Imei version" } else { "Imei" }, vec![quoted(imei)]),
         ResponseCode::SmsMessageFormat(format) => named("SmsMessageFormat", vec![debug(format)]),
-        ResponseCode::SmsMessage(sms) => named("SmsMessage", vec![quoted(sms.sender)]),
+        ResponseCode::SmsMessage(sms) => {
+            assert_eq!(sms.message, "");
+            named("SmsMessage", vec![quoted(sms.sender)])
+        }
+        other => panic!("{:?}", other),
     }
 }
 
@@ -65,6 +65,7 @@ fn unsolicited(urc: Urc) -> Vec<u8> {
         Urc::GnssReport(GnssReport::NoFix { sat_gps_view }) => return named("GnssReport NoFix", vec![or_none(sat_gps_view, count)]),
         Urc::NetworkRegistration(r) => return named("NetworkRegistration", vec![debug(r.status), or_none(r.lac, count), or_none(r.ci, count)]),
         Urc::GnssReport(GnssReport::Fix(fix)) => fix,
+        other => panic!("{:?}", other),
     };
     let t = fix.date_time;
     let mut all = vec![count(t.year), count(t.month), count(t.day), count(t.hour), count(t.minute), count(t.second)];
@@ -77,6 +78,59 @@ fn refused(refusal: Refusal) -> Vec<u8> {
     named("refused", vec![count(refusal.0)])
 }
 
+/// As its own function and the trait's read the line.
+fn both<'a, T: AtParseLine<'a> + std::fmt::Debug>(line: &'a str, own: Result<T, Refusal>, show: impl Fn(T) -> Vec<u8>) -> Vec<u8> {
+    assert_eq!(format!("{:?}", T::from_line(line)), format!("{:?}", own));
+    own.map_or_else(refused, show)
+}
+
+/// What each reader alone says of the line, under the name that the lists have for it.
+fn each_reader(line: &str) -> [(&'static str, Vec<u8>); 15] {
+    [
+        ("GenericOk", both(line, GenericOk::from_line(line), |ok| response(ResponseCode::Ok(ok)))),
+        ("SimError", both(line, SimError::from_line(line), |error| response(ResponseCode::Error(error)))),
+        ("WritePrompt", both(line, WritePrompt::from_line(line), |prompt| response(ResponseCode::WritePrompt(prompt)))),
+        ("CloseOk", both(line, CloseOk::from_line(line), |close| response(ResponseCode::CloseOk(close)))),
+        ("Iccid", both(line, Iccid::from_line(line), |id| response(ResponseCode::Iccid(id)))),
+        ("SignalQuality", both(line, SignalQuality::from_line(line), |signal| response(ResponseCode::SignalQuality(signal)))),
+        ("SystemInfo", both(line, SystemInfo::from_line(line), |info| response(ResponseCode::SystemInfo(info)))),
+        ("OperatorInfo", both(line, OperatorInfo::from_line(line), |info| response(ResponseCode::OperatorInfo(info)))),
+        ("NetworkTime", both(line, NetworkTime::from_line(line), |time| response(ResponseCode::NetworkTime(time)))),
+        ("DownloadInfo", both(line, DownloadInfo::from_line(line), |info| response(ResponseCode::DownloadInfo(info)))),
+        ("Imei", both(line, Imei::from_line(line), |imei| response(ResponseCode::Imei(imei)))),
+        ("SmsMessageFormat", both(line, SmsMessageFormat::from_line(line), |format| response(ResponseCode::SmsMessageFormat(format)))),
+        ("SmsMessage", both(line, SmsMessage::from_line(line), |sms| response(ResponseCode::SmsMessage(sms)))),
+        ("GnssReport", both(line, GnssReport::from_line(line), |report| unsolicited(Urc::GnssReport(report)))),
+        ("NetworkRegistration", both(line, NetworkRegistration::from_line(line), |there| unsolicited(Urc::NetworkRegistration(there)))),
+    ]
+}
+
+/// The two trials and each reader alone. Who does not accept the line refuses it with 3, but for 1, which is everyone's; 4, of the responses and of the one
+/// whose text it is; and 13, of the unsolicited codes and of the satellite report.
+fn alone(line: &str, answer: &[u8]) {
+    let name = answer.split(|&byte| byte == b' ').next().unwrap();
+    let of_urc = [&b"GnssReport"[..], b"NetworkRegistration"].contains(&name);
+    let (response_says, urc_says) = (both(line, ResponseCode::from_line(line), response), both(line, Urc::from_line(line), unsolicited));
+    let nobody = b"refused 3".to_vec();
+    let keeps = |keeps: bool| if keeps { answer.to_vec() } else { nobody.clone() };
+    let (from_responses, from_urcs) = match answer {
+        b"refused 1" | b"refused 3" => (true, true),
+        b"refused 4" => (true, false),
+        b"refused 13" => (false, true),
+        _ => (!of_urc, of_urc),
+    };
+    assert_eq!((response_says, urc_says), (keeps(from_responses), keeps(from_urcs)), "{:?}", line);
+    for (reader, says) in each_reader(line) {
+        let own = match answer {
+            b"refused 1" => true,
+            b"refused 4" => reader == if line.starts_with("+CNTP") { "NetworkTime" } else { "SmsMessage" },
+            b"refused 13" => reader == "GnssReport",
+            _ => name == reader.as_bytes(),
+        };
+        assert_eq!(says, keeps(own), "{} of {:?}", reader, line);
+    }
+}
+
 #[test]
 fn lines() {
     let (asked, answered) = (list("lines/stdin"), list("lines/stdout"));
@@ -86,35 +140,41 @@ fn lines() {
         let ours = match Line::from_line(line) {
             Ok(Line::Response(code)) => response(code),
             Ok(Line::Unsolicited(urc)) => unsolicited(urc),
+            Ok(other) => panic!("{:?}", other),
             Err(refusal) => refused(refusal),
         };
         assert_eq!(ours, *answer, "{}", line.escape_ascii());
         assert_eq!(sort_line(line).map_err(refused).err(), Line::from_line(line).map_err(refused).err());
+        match std::str::from_utf8(line) {
+            Ok(line) => alone(line, answer),
+            Err(_) => assert!([&b"refused 1"[..], b"refused 2"].contains(&&answer[..])),
+        }
     }
 }
 
-fn number<T: std::str::FromStr>(text: &[u8]) -> Option<T> {
-    std::str::from_utf8(text).ok()?.parse().ok()
-}
-
-fn request<'a>(fields: &[&'a [u8]]) -> Option<Request<'a>> {
-    Some(match *fields {
-        [b"GetSignalQuality"] => Request::GetSignalQuality,
-        [b"ShowIccid"] => Request::ShowIccid,
-        [b"GetImei"] => Request::GetImei,
-        [b"GetOperatorInfo"] => Request::GetOperatorInfo,
-        [b"SetManualOperator", plmn] => Request::SetManualOperator { plmn },
-        [b"SetAutomaticOperator"] => Request::SetAutomaticOperator,
-        [b"GetSystemInfo"] => Request::GetSystemInfo,
-        [b"SynchronizeNetworkTime", ntp_server, timezone, cid] => Request::SynchronizeNetworkTime { ntp_server, timezone: number(timezone)?, cid: number(cid)? },
-        [b"Execute"] => Request::Execute,
-        [b"DownloadToFileSystem", url, file_path] => Request::DownloadToFileSystem { url, file_path },
-        [b"GetSmsMessageFormat"] => Request::GetSmsMessageFormat,
-        [b"SetSmsMessageFormat", b"Pdu"] => Request::SetSmsMessageFormat(SmsMessageFormat::Pdu),
-        [b"SetSmsMessageFormat", b"Text"] => Request::SetSmsMessageFormat(SmsMessageFormat::Text),
-        [b"ReadSms", index] => Request::ReadSms { index: number(index)? },
+/// The same by the published struct, where the texts are UTF-8.
+fn struct_says(fields: &[&[u8]], out: &mut [u8]) -> Option<Result<usize, Refusal>> {
+    let texts: Vec<&str> = fields.iter().map(|field| std::str::from_utf8(field)).collect::<Result<_, _>>().ok()?;
+    let written = match *texts {
+        ["GetSignalQuality"] => GetSignalQuality.encode(out),
+        ["ShowIccid"] => ShowIccid.encode(out),
+        ["GetImei"] => GetImei.encode(out),
+        ["GetOperatorInfo"] => GetOperatorInfo.encode(out),
+        ["SetManualOperator", plmn] => SetManualOperator { plmn }.encode(out),
+        ["SetAutomaticOperator"] => SetAutomaticOperator.encode(out),
+        ["GetSystemInfo"] => GetSystemInfo.encode(out),
+        ["SynchronizeNetworkTime", ntp_server, timezone, cid] => {
+            SynchronizeNetworkTime { ntp_server, timezone: timezone.parse().ok()?, cid: cid.parse().ok()? }.encode(out)
+        }
+        ["Execute"] => Execute.encode(out),
+        ["DownloadToFileSystem", url, file_path] => DownloadToFileSystem { url, file_path }.encode(out),
+        ["GetSmsMessageFormat"] => GetSmsMessageFormat.encode(out),
+        ["SetSmsMessageFormat", "Pdu"] => SetSmsMessageFormat(SmsMessageFormat::Pdu).encode(out),
+        ["SetSmsMessageFormat", "Text"] => SetSmsMessageFormat(SmsMessageFormat::Text).encode(out),
+        ["ReadSms", index] => ReadSms { index: index.parse().ok()? }.encode(out),
         _ => return None,
-    })
+    };
+    Some(written.map(|command| command.len()))
 }
 
 /// The command, opened in echo mode, is known again with its CR and without it, and only once; no reader takes it.
@@ -124,8 +184,9 @@ fn comes_back(request: &Request, command: &[u8]) {
         let (mut desk, mut out, mut text) = (Desk::new(), [0; 256], [0; 256]);
         assert_eq!(desk.open_echo(request, &mut out), Ok(command));
         out.fill(0);
-        for (line, event, ordinal) in [(&b"OK"[..], Event::Stray(0), 1), (echo, Event::Echo, 2), (again, Event::Stray(3), 3)] {
-            assert_eq!(desk.feed(&[line, b"\r\n"].concat(), &mut text).unwrap().heard, Some(Heard { event, ordinal, line }));
+        for (line, event, ordinal) in [(&b"OK"[..], Event::Stray(None), 1), (echo, Event::Echo, 2), (again, Event::Stray(Some(Refusal(3))), 3)] {
+            let heard = desk.feed(&[line, b"\r\n"].concat(), &mut text).unwrap().heard.unwrap();
+            assert_eq!((heard.event, heard.ordinal, heard.line), (event, ordinal, line));
         }
         assert!(desk.is_open());
         assert_eq!(sort_line(echo), Err(Refusal(3)));
@@ -136,21 +197,28 @@ fn comes_back(request: &Request, command: &[u8]) {
 fn commands() {
     let (asked, answered) = (list("commands/stdin"), list("commands/stdout"));
     assert_eq!(asked.len(), answered.len());
+    let mut by_struct = 0;
     for (line, answer) in asked.iter().zip(&answered) {
         let fields: Vec<&[u8]> = line.split(|&byte| byte == b'\t').collect();
         let (mut out, mut opened) = ([0; 256], [0; 256]);
-        let ours = match request(&fields) {
+        let ours = match request(line) {
             None => b"unknown".to_vec(),
             Some(request) => {
                 let written = request.encode(&mut out);
-                assert_eq!(Desk::new().open(&request, &mut opened), written);
-                assert_eq!(Desk::new().open_echo(&request, &mut opened), written);
+                assert_eq!(Desk::new().open(request, &mut opened), written);
+                assert_eq!(Desk::new().open_echo(request, &mut opened), written);
                 if let Ok(command) = written {
                     comes_back(&request, command);
+                }
+                if let Some(size) = struct_says(&fields, &mut opened) {
+                    assert_eq!(size.map(|size| &opened[..size]), written);
+                    by_struct += 1;
                 }
                 written.map_or_else(refused, |command| command.to_vec())
             }
         };
         assert_eq!(ours, *answer, "{}", line.escape_ascii());
     }
+    // all but the few with a text that is not UTF-8, and those that are no request
+    assert!(by_struct > 1000, "{}", by_struct);
 }

@@ -246,6 +246,17 @@ fn a_reset_awaits_none_and_leaves_what_was_kept() {
     assert_eq!(events(&mut all.desk, b"AT+CSQ\n+CSQ: 31,99\n", 4), [(6, 1, 3, b"AT+CSQ".to_vec()), (2, 2, 0, b"+CSQ: 31,99".to_vec())]);
 }
 
+/// Every number of state[1] that awaits an answer, and the others.
+#[test]
+fn a_command_is_open_where_one_is_awaited() {
+    for awaited in (0..=400).chain([1 << 32, (1 << 32) + 6, u64::MAX]) {
+        for others in [0, 7, u64::MAX] {
+            let state = [others, awaited, others, others];
+            assert_eq!(unsafe { raw::sim7000_is_open(&state) }, u8::from((1..=182).contains(&awaited)), "{}", awaited);
+        }
+    }
+}
+
 #[test]
 fn a_refused_feed_changes_nothing() {
     let mut all = lent(parts([0xaa; 210], [0; 4]), 64);

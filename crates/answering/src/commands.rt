@@ -12,9 +12,9 @@ use text::number::ParsedU16;
 use text::part;
 
 // A longer line is unknown: of one that long some bytes may be gone (see console::input).
-const LONGEST: usize = 32767;
+pub(crate) const LONGEST: usize = 32767;
 
-enum Asked {
+pub(crate) enum Asked {
     Is(Request),
     Not,
 }
@@ -87,7 +87,7 @@ fn synchronize(timezone: &[u8], cid: &[u8]) -> Asked {
     Asked::Is(Request::SynchronizeNetworkTime { timezone, cid })
 }
 
-fn request_of(line: &[u8]) -> Asked {
+pub(crate) fn request_of(line: &[u8]) -> Asked {
     let name = field::field(line, b'\t', 0);
     let count = field::field_count(line, b'\t');
     if count == 1 {

@@ -1,4 +1,5 @@
-// What the programs `lines` and `commands` do: each line of standard input is answered with a line. Lines are cut at LF, and a last line needs none.
+// What the programs `lines`, `commands`, `captures` and `vectors` do: each line of standard input is answered, by `captures` with as many lines as it has events and
+// by the others with one. Lines are cut at LF, and a last line needs none.
 use console::input;
 use console::input::FIRST;
 use console::input::Turn;
@@ -6,18 +7,26 @@ use console::output;
 use text::part;
 ghost use Prim.Native.Nat.{_-_, _≤_};
 
+mod captures;
 mod commands;
+mod handed;
+mod hex;
 mod lines;
+mod vectors;
 
 pub enum Program {
     Lines,
     Commands,
+    Captures,
+    Vectors,
 }
 
 fn answer(program: Program, out: &mut [u8], at: usize, line: &[u8]) -> usize {
     match program {
         Program::Lines => lines::answer(out, at, line),
         Program::Commands => commands::answer(out, at, line),
+        Program::Captures => captures::answer(out, at, line),
+        Program::Vectors => vectors::answer(out, at, line),
     }
 }
 

@@ -3,7 +3,7 @@ use Prim.Native.Nat.{ℕ}
 use mathlib.Core.Path.{_≡_, refl, sym, ap, _∙_}
 use mathlib.Core.List.{List, []}
 use lib.ListN.{replicate}
-use Rattle.sim7000.specs.Parts.{ExportResetKeeps, FeedLeft, ExportFeedKeeps}
+use Rattle.sim7000.specs.Parts.{ExportResetKeeps, ExportIsOpenKeeps, FeedLeft, ExportFeedKeeps}
 use Rattle.sim7000.specs.Command.{WriteLeft, ExportWriteKeeps, OpenLeft, ExportOpenKeeps, ExportOpenEchoKeeps}
 
 -- with `out` and `size`
@@ -41,3 +41,7 @@ one-feed line state sent chunk text told r q line′ line″ state′ state″ t
 -- one answer: sim7000_reset
 pub one-reset : (state state′ state″ : List ℕ) → ExportResetKeeps state state′ → ExportResetKeeps state state″ → state′ ≡ state″
 one-reset state state′ state″ e f = e ∙ sym f
+
+-- one answer: sim7000_is_open
+pub one-is-open : (state : List ℕ) (r q : ℕ) → ExportIsOpenKeeps state r → ExportIsOpenKeeps state q → r ≡ q
+one-is-open state r q e f = e ∙ sym f

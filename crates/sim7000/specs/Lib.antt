@@ -7,3 +7,4 @@ pub mod Dates
 pub mod says
 pub mod Calls
 pub mod Ordinals
+pub mod Version

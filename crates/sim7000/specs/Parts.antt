@@ -11,8 +11,8 @@ use lib.ListN.{getD}
 use Rattle.text.specs.Reading.{Reading, read, refused}
 use Rattle.at_command.specs.Kind.{Kind, placeOf, kindAt}
 use Rattle.desk.specs.Ordinal.{capped}
-use Rattle.desk.specs.Judge.{eventNumber, strayNumber}
-use Rattle.desk.specs.Desk.{State, resetState, Heard, quiet, event, Fed, fed}
+use Rattle.desk.specs.Judge.{isOpen, eventNumber, strayNumber}
+use Rattle.desk.specs.Desk.{State, commandKept, resetState, Heard, quiet, event, Fed, fed}
 
 -- ---- the command
 
@@ -49,6 +49,10 @@ resets state = numbersOf (resetState (deskIn [] state []))
 -- the contract of `sim7000_reset`; a primed name is what is lent, as it is after the call
 abbrev pub ExportResetKeeps : List ℕ → List ℕ → Type 0
 ExportResetKeeps state state′ = state′ ≡ resets state
+
+-- the contract of `sim7000_is_open`: whether that desk's command is open, whatever the bytes are
+abbrev pub ExportIsOpenKeeps : List ℕ → ℕ → Type 0
+ExportIsOpenKeeps state r = r ≡ cond (isOpen (commandKept (deskIn [] state [] .command))) 1 0
 
 -- ---- feed
 

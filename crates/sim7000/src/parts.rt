@@ -3,10 +3,11 @@ use crate::numbers;
 use crate::request;
 use crate::request::Wanted;
 use at_command::request::Encoded;
+use desk::Command;
 use desk::FedAnswer;
 use desk::OpenedParts;
 ghost use Rattle.sim7000.specs.Command.{ExportOpenKeeps, ExportOpenEchoKeeps};
-ghost use Rattle.sim7000.specs.Parts.{ExportResetKeeps, ExportFeedKeeps};
+ghost use Rattle.sim7000.specs.Parts.{ExportResetKeeps, ExportIsOpenKeeps, ExportFeedKeeps};
 ghost use Rattle.sim7000.specs.says.Left.{LeaveKeeps};
 
 // Zeros are the state after it: idle, no echo awaited, nothing held, and no line counted.
@@ -15,6 +16,19 @@ pub extern "C" fn sim7000_reset(state: &mut [u64; 4])
     ensures { λ _. ⌜ ExportResetKeeps (now (state .entry)) (now (state .exit)) ⌝ }
 {
     *state = [0, 0, 0, 0];
+}
+
+// 1 while a command is open, else 0.
+#[no_mangle]
+pub extern "C" fn sim7000_is_open(state: &[u64; 4]) -> u8
+    ensures { λ r. ⌜ ExportIsOpenKeeps (now (state .entry)) r ⌝ }
+{
+    let command = numbers::command_in(state[1]);
+    match command {
+        Command::Idle => 0,
+        Command::One(_) => 1,
+        Command::Two(_, _) => 1,
+    }
 }
 
 // What an open leaves in the numbers; a refusal leaves them.
