@@ -1,5 +1,7 @@
 // What the programs `lines`, `commands`, `captures` and `vectors` do: each line of standard input is answered, by `captures` with as many lines as it has events and
 // by the others with one. Lines are cut at LF, and a last line needs none.
+#![tactic(auto)]
+
 ghost use Rattle.std.specs.Prelude.{◌-◌, ◌≤◌};
 
 use console::input::{FIRST, Turn};

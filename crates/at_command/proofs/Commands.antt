@@ -6,7 +6,7 @@ use mathlib.Core.List.{List, [], ◌∷◌}
 use Prim.Native.Nat.{ℕ, ◌≤◌}
 use native.Mathlib.Omega.{arith}
 use lib.Dec.{eqb, ltb, leb}
-use lib.ListN.{length, length_append}
+use lib.ListN.{length, length-append}
 use borrow.Author.Tests.{eqb-true, leb-true, ltb-false}
 use denote.Laws.{Is}
 use denote.Enum.Declared.{row}
@@ -68,7 +68,7 @@ command get_imei = fixed get_imei refl refl refl
 command get_operator_info = fixed get_operator_info refl refl refl
 command (set_manual_operator plmn) = record {
   begins = refl;
-  size = λ n h. let l = (limited (operator_up_to 6 plmn) [] h).0 in simp length_append (omega arith);
+  size = λ n h. let l = (limited (operator_up_to 6 plmn) [] h).0 in simp length-append (omega arith);
   printable = λ h. let p = (fitted (operator_up_to 6 plmn) [] h).0 in simp (within_append, p);
 }
 command set_automatic_operator = fixed set_automatic_operator refl refl refl
@@ -80,7 +80,7 @@ command (synchronize_network_time server timezone cid) = record {
       let q = quoted_most server in
       let t = decimal_most 4 timezone (omega arith) in
       let c = decimal_most 2 cid (omega arith) in
-      simp length_append (omega arith);
+      simp length-append (omega arith);
   printable = λ h. let p = quoted_printable server (fitted (up_to 64 server) [] h).0 in simp (within_append, p, decimal_printable);
 }
 command execute = fixed execute refl refl refl
@@ -91,7 +91,7 @@ command (download_to_file_system url path) = record {
       let k = (limited (up_to 32 path) [] l.1).0 in
       let q = quoted_most url in
       let r = quoted_most path in
-      simp length_append (omega arith);
+      simp length-append (omega arith);
   printable = λ h.
       let f = fitted (up_to 64 url) (up_to 32 path ∷ []) h in
       let p = quoted_printable url f.0 in
@@ -101,12 +101,12 @@ command (download_to_file_system url path) = record {
 command get_sms_message_format = fixed get_sms_message_format refl refl refl
 command (set_sms_message_format format) = record {
   begins = refl;
-  size = λ n h. let t = decimal_most 0 format (omega arith) in simp length_append (omega arith);
+  size = λ n h. let t = decimal_most 0 format (omega arith) in simp length-append (omega arith);
   printable = λ h. decimal_printable format;
 }
 command (read_sms index) = record {
   begins = refl;
-  size = λ n h. let t = decimal_most 2 index (omega arith) in simp length_append (omega arith);
+  size = λ n h. let t = decimal_most 2 index (omega arith) in simp length-append (omega arith);
   printable = λ h. decimal_printable index;
 }
 
@@ -127,7 +127,7 @@ module _ (a : Asked) where
     body_size = (command a).size numbers short
 
     pub command_size : length (command_of a) ≤ 210
-    command_size = let s = body_size in let z = length_append (body_of a) (bytes "\r") in omega arith
+    command_size = let s = body_size in let z = length-append (body_of a) (bytes "\r") in omega arith
 
   module _ (fit : any_unfit (texts_of a) ≡ false) where
     pub command_printable : all_within 32 126 (body_of a) ≡ true

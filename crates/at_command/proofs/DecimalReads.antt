@@ -7,7 +7,7 @@ use Prim.Native.Nat.{ℕ, zero, suc, ◌+◌, ◌-◌, ◌*◌, ◌/◌, ◌%◌
 use native.Mathlib.Nat.{pow-zero, pow-suc, mul-one, mul_assoc}
 use native.Mathlib.Omega.{arith}
 use lib.Dec.{ltb}
-use lib.ListN.{length, length_append}
+use lib.ListN.{length, length-append}
 use borrow.Author.Tests.{lt-ltb, le-leb, ltb-true, ltb-false, ne_eqb}
 use Rattle.text.specs.Bytes.{bytes, starts_with, all_digits}
 use Rattle.text.specs.Number.{digit_value, digits_of, value_of, up_to, worth, magnitude, unsigned}
@@ -40,7 +40,7 @@ value_last : (ds : List ℕ) (d : ℕ) → value_of 10 (ds ++ d ∷ []) ≡ valu
 unfolding value_of
 value_last [] d = rw (pow-zero, mul-one) (omega arith)
 value_last (e ∷ ds) d =
-    let l : length (ds ++ d ∷ []) ≡ suc (length ds) = length_append ds (d ∷ []) ∙ omega arith in
+    let l : length (ds ++ d ∷ []) ≡ suc (length ds) = length-append ds (d ∷ []) ∙ omega arith in
     let p : e * 10 ^ suc (length ds) ≡ e * 10 ^ length ds * 10 = rw (pow-suc) (sym (mul_assoc e (10 ^ length ds) 10)) in
     let r = value_last ds d in
     rw (l, p) (omega arith)
@@ -86,7 +86,7 @@ some_digit n e = by (ltb n 10) (ltb-true n 10) (ltb-false n 10)
     by true f g = let z = ap length (sym (decimal_one n (f refl)) ∙ e) in omega arith
     by false f g =
         let z = ap length (sym (decimal_more n (g refl)) ∙ e) in
-        let l = length_append (decimal (n / 10)) ((48 + n % 10) ∷ []) in
+        let l = length-append (decimal (n / 10)) ((48 + n % 10) ∷ []) in
         omega arith
 
 pub decimal_reads : (max n : ℕ) → n ≤ max → unsigned 10 max (decimal n) ≡ some n

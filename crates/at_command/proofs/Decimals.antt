@@ -6,7 +6,7 @@ use Prim.Native.Nat.{ℕ, zero, suc, ◌+◌, ◌-◌, ◌/◌, ◌%◌, ◌^◌
 use native.Mathlib.Nat.{add-suc, pow-suc}
 use native.Mathlib.Omega.{arith}
 use lib.Dec.{ltb}
-use lib.ListN.{length, take, drop, length_append, drop_of_length-le}
+use lib.ListN.{length, take, drop, length-append, drop_of_length-le}
 use lib.Seq.{drop-append-le, take_all}
 use borrow.Author.Tests.{lt-ltb, le-ltb, ltb-true, ltb-false}
 use Rattle.at_command.specs.WriterSteps.{last_digits, HasDigits}
@@ -39,7 +39,7 @@ decimal_most (suc k) n h = by (ltb n 10) (ltb-true n 10) (ltb-false n 10) (decim
   where
     by : (t : Bool) → (t ≡ true → n < 10) → (t ≡ false → 10 ≤ n) → length (decimal (n / 10)) ≤ suc k → length (decimal n) ≤ suc (suc k)
     by true f g r = rw (decimal_one n (f refl)) (omega arith)
-    by false f g r = rw (decimal_more n (g refl)) (let z = length_append (decimal (n / 10)) ((48 + n % 10) ∷ []) in omega arith)
+    by false f g r = rw (decimal_more n (g refl)) (let z = length-append (decimal (n / 10)) ((48 + n % 10) ∷ []) in omega arith)
 
 -- a number of k digits is its last k digits
 pub last_one : (n : ℕ) → n < 10 → decimal n ≡ last_digits 1 n
@@ -59,7 +59,7 @@ five n a b c d e p q r s t = rw (p, q, r, s, t)
 pub last_length : (k n : ℕ) → length (last_digits k n) ≡ k
 unfolding last_digits
 last_length zero n = refl
-last_length (suc k) n = length_append (last_digits k (n / 10)) ((48 + n % 10) ∷ []) ∙ (let e = last_length k (n / 10) in omega arith)
+last_length (suc k) n = length-append (last_digits k (n / 10)) ((48 + n % 10) ∷ []) ∙ (let e = last_length k (n / 10) in omega arith)
 
 -- fewer digits are the end of more
 pub last_drop : (j k n : ℕ) → drop j (last_digits (j + k) n) ≡ last_digits k n

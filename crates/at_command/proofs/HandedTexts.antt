@@ -9,7 +9,7 @@ use lib.Dec.{ltb}
 use lib.ListN.{length, take, drop, take-append-drop}
 use lib.Seq.{take-append-le, take-length, drop-drop}
 use borrow.Author.Tests.{ltb-false}
-use denote.Ref.{Bor, MutBor}
+use denote.Ref.{Bor}
 use Rattle.text.specs.Bytes.{bytes, has, index_of}
 use Rattle.text.specs.Field.{fields, nth, place_of}
 use Rattle.text.specs.Handed.{Handed, IsHanded}
@@ -138,7 +138,7 @@ module _ (line fallback t : Bor (List ℕ)) where
       (λ e. by_fitting Q 32 x _ (in_line_lem x _ (after_at s (index_of 44 r + 1))))
       (λ e. absent x (no_comma r e))))))
 
-named : (line name t : MutBor (List ℕ)) → Hands line name t (unquoted (field_or 2 (fields 44 (drop 7 line.now)) name.now)) (name_in (name_of (fields 44 (drop 7 line.now)) name.now))
+named : (line name t : Bor (List ℕ)) → Hands line name t (unquoted (field_or 2 (fields 44 (drop 7 line.now)) name.now)) (name_in (name_of (fields 44 (drop 7 line.now)) name.now))
 unfolding field_or name_of name_in
 named line name t = go (ltb 2 (length (fields 44 (drop 7 line.now))))
   where
@@ -146,7 +146,7 @@ named line name t = go (ltb 2 (length (fields 44 (drop 7 line.now))))
     go true = in_line_lem line name t _ _ (field_at_lem line.now 2)
     go false = in_fallback_lem line name t _ _ (lent_at name.now)
 
-module _ (line formatFallback nameFallback t : MutBor (List ℕ)) where
+module _ (line formatFallback nameFallback t : Bor (List ℕ)) where
   pub name_is : (name_handed line.now formatFallback.now nameFallback.now).refusal ≡ 0 → IsHanded line nameFallback (name_handed line.now formatFallback.now nameFallback.now) t
       → t.now ≡ unquoted (field_or 2 (fields 44 (drop 7 line.now)) nameFallback.now)
   unfolding name_handed cops_text cops_fields

@@ -6,7 +6,7 @@ use Prim.Native.Nat.{ℕ, suc, ◌+◌, ◌≤◌, ◌<◌}
 use native.Mathlib.Nat.{add-zero}
 use native.Mathlib.Numerals.{add-one}
 use native.Mathlib.Omega.{arith}
-use lib.ListN.{length, take, drop, get_or, set, length_append, length-drop, length-set, take-append-drop}
+use lib.ListN.{length, take, drop, get_or, set, length-append, length-drop, length-set, take-append-drop}
 use lib.Seq.{length-take-le, take-suc, take_at, take_all, drop-append-add, drop-drop, set_split, append_snoc}
 use Rattle.text.specs.Copy.{LayKeeps}
 use Rattle.text.proofs.Copying.{whole_ends, whole_holds}
@@ -34,10 +34,10 @@ lay_on {p} {q} {b} {x} {y} {at} {e} {f} l m =
     let s = m.room in
     let k = m.ends in
     let front : List ℕ = take at b ++ p in
-    let both = length_append p q in
-    let size : length front ≡ e = length_append (take at b) p ∙ ap (λ (j : ℕ). j + length p) (length-take-le at b (omega arith)) ∙ sym n in
+    let both = length-append p q in
+    let size : length front ≡ e = length-append (take at b) p ∙ ap (λ (j : ℕ). j + length p) (length-take-le at b (omega arith)) ∙ sym n in
     let seen : x ≡ front ++ drop e b = l.holds ∙ ap (λ (j : ℕ). front ++ drop j b) (sym n) in
-    let whole : length x ≡ length b = ap length seen ∙ length_append front (drop e b) ∙ (let d = length-drop e b in omega arith) in
+    let whole : length x ≡ length b = ap length seen ∙ length-append front (drop e b) ∙ (let d = length-drop e b in omega arith) in
     let next : at + length (p ++ q) ≡ e + length q = omega arith in
     record {
       room = omega arith;
@@ -88,8 +88,8 @@ module _ (piece b : List ℕ) (at i e : ℕ) (x : List ℕ) (l : Lays (escaped (
     escape_room : (w : List ℕ) → escape (get_or piece i 0) ≡ w → at + length (escaped piece) ≤ length b → e + length w ≤ length b
     escape_room w k r =
         let n = l.ends in
-        let z = length_append (escaped (take i piece)) w in
-        let y = length_append (escaped (take (i + 1) piece)) (escaped (drop (i + 1) piece)) in
+        let z = length-append (escaped (take i piece)) w in
+        let y = length-append (escaped (take (i + 1) piece)) (escaped (drop (i + 1) piece)) in
         let u = ap length (next_escape w k) in
         let v = ap length (sym (escaped_append (take (i + 1) piece) (drop (i + 1) piece)) ∙ ap escaped (take-append-drop (i + 1) piece)) in
         omega arith

@@ -5,7 +5,7 @@ use mathlib.Core.List.{List, [], ◌∷◌, ◌++◌}
 use Prim.Native.Nat.{ℕ, ◌+◌, ◌*◌, ◌≤◌}
 use native.Mathlib.Omega.{arith}
 use lib.Dec.{eqb}
-use lib.ListN.{length, length_append}
+use lib.ListN.{length, length-append}
 use borrow.Author.Tests.{eqb-true}
 use Rattle.text.specs.Bytes.{count_of, bytes}
 use Rattle.at_command.specs.Piece.{marked, escape, escaped, quoted}
@@ -25,13 +25,13 @@ escaped_size [] = refl
 escaped_size (x ∷ t) =
     let e = escape_size x in
     let r = escaped_size t in
-    length_append (escape x) (escaped t) ∙ omega arith
+    length-append (escape x) (escaped t) ∙ omega arith
 
 pub quoted_adds : (t : List ℕ) → length (quoted t) ≡ 2 + length (escaped t)
 unfolding quoted
 quoted_adds t =
-    let z = length_append (bytes "\"" ++ escaped t) (bytes "\"") in
-    let y = length_append (bytes "\"") (escaped t) in
+    let z = length-append (bytes "\"" ++ escaped t) (bytes "\"") in
+    let y = length-append (bytes "\"") (escaped t) in
     omega arith
 
 pub quoted_length : (t : List ℕ) (a b : ℕ) → a ≡ count_of 34 t → b ≡ count_of 92 t → 2 + length t + a + b ≡ length (quoted t)
@@ -53,7 +53,7 @@ escaped_most [] = omega arith
 escaped_most (x ∷ t) =
     let e = escape_most x in
     let r = escaped_most t in
-    let z = length_append (escape x) (escaped t) in
+    let z = length-append (escape x) (escaped t) in
     omega arith
 
 pub quoted_most : (t : List ℕ) → length (quoted t) ≤ 2 + 2 * length t

@@ -10,14 +10,14 @@ use crate::write;
 use text::number::{ParsedU8, ParsedU64};
 use text::{bytes, line, number, part};
 
-#[derive(Drop)]
+#[derive(Clone, Copy)]
 pub struct Iccid {
     pub country: u8,
     pub issuer: u8,
     pub account: u64,
 }
 
-#[derive(Drop)]
+#[derive(Clone, Copy)]
 pub enum IccidAnswer {
     Value(Iccid),
     Refused(u8),
@@ -71,7 +71,7 @@ impl Iccid {
 }
 
 // AT+CCID
-#[derive(Drop)]
+#[derive(Clone, Copy)]
 pub struct ShowIccid;
 
 impl ShowIccid {

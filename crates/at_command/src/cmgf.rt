@@ -10,19 +10,19 @@ use crate::request::Encoded;
 use crate::write;
 use text::{bytes, code, line, part};
 
-#[derive(Drop)]
+#[derive(Clone, Copy)]
 pub enum SmsMessageFormat {
     Pdu,
     Text,
 }
 
-#[derive(Drop)]
+#[derive(Clone, Copy)]
 pub enum SmsMessageFormatAnswer {
     Value(SmsMessageFormat),
     Refused(u8),
 }
 
-#[derive(Drop)]
+#[derive(Clone, Copy)]
 enum FormatCode {
     Is(SmsMessageFormat),
     Not,
@@ -63,7 +63,7 @@ impl SmsMessageFormat {
 }
 
 // AT+CMGF?
-#[derive(Drop)]
+#[derive(Clone, Copy)]
 pub struct GetSmsMessageFormat;
 
 impl GetSmsMessageFormat {
@@ -75,7 +75,7 @@ impl GetSmsMessageFormat {
 }
 
 // AT+CMGF=<format>
-#[derive(Drop)]
+#[derive(Clone, Copy)]
 pub struct SetSmsMessageFormat(pub SmsMessageFormat);
 
 impl SetSmsMessageFormat {

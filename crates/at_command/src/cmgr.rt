@@ -15,12 +15,12 @@ use text::part::Place;
 use text::{bytes, field, handed, line, part, reader};
 
 // The sender's place in the line. The message's text is empty, as in the Rust.
-#[derive(Drop)]
+#[derive(Clone, Copy)]
 pub struct SmsMessage {
     pub sender: Place,
 }
 
-#[derive(Drop)]
+#[derive(Clone, Copy)]
 pub enum SmsMessageAnswer {
     Value(SmsMessage),
     Refused(u8),
@@ -86,7 +86,7 @@ impl SmsMessage {
 }
 
 // AT+CMGR=<index>
-#[derive(Drop)]
+#[derive(Clone, Copy)]
 pub struct ReadSms {
     pub index: u8,
 }

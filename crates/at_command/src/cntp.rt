@@ -16,7 +16,7 @@ use text::handed::{LineText, TextAt};
 use text::part::Place;
 use text::{bytes, code, handed, line, part};
 
-#[derive(Drop)]
+#[derive(Clone, Copy)]
 pub enum SyncNtpStatusCode {
     Success,
     NetworkError,
@@ -27,25 +27,25 @@ pub enum SyncNtpStatusCode {
 }
 
 // Where the time stands in the line, if it is there.
-#[derive(Drop)]
+#[derive(Clone, Copy)]
 pub enum TimePlace {
     None,
     Some(Place),
 }
 
-#[derive(Drop)]
+#[derive(Clone, Copy)]
 pub struct NetworkTime {
     pub code: SyncNtpStatusCode,
     pub time: TimePlace,
 }
 
-#[derive(Drop)]
+#[derive(Clone, Copy)]
 pub enum NetworkTimeAnswer {
     Value(NetworkTime),
     Refused(u8),
 }
 
-#[derive(Drop)]
+#[derive(Clone, Copy)]
 enum NtpCode {
     Is(SyncNtpStatusCode),
     Not,
@@ -149,7 +149,7 @@ impl NetworkTime {
 }
 
 // AT+CNTP="<ntp_server>",<timezone>,<cid>
-#[derive(Drop)]
+#[derive(Clone, Copy)]
 pub struct SynchronizeNetworkTime {
     pub timezone: u16,
     pub cid: u8,
@@ -188,7 +188,7 @@ fn lay_sync(ntp_server: &[u8], timezone: u16, cid: u16, out: &mut [u8]) -> usize
 }
 
 // AT+CNTP
-#[derive(Drop)]
+#[derive(Clone, Copy)]
 pub struct Execute;
 
 impl Execute {

@@ -16,7 +16,7 @@ use text::handed::{LineText, TextAt};
 use text::part::Place;
 use text::{bytes, code, field, handed, line, part, reader};
 
-#[derive(Drop)]
+#[derive(Clone, Copy)]
 pub enum OperatorMode {
     Automatic,
     Manual,
@@ -24,7 +24,7 @@ pub enum OperatorMode {
     ManualAutomatic,
 }
 
-#[derive(Drop)]
+#[derive(Clone, Copy)]
 pub enum OperatorFormat {
     Long,
     Short,
@@ -32,32 +32,32 @@ pub enum OperatorFormat {
 }
 
 // Where the operator's name stands: in the line, or in the text lent for it.
-#[derive(Drop)]
+#[derive(Clone, Copy)]
 pub enum OperatorName {
     InLine(Place),
     InFallback(Place),
 }
 
-#[derive(Drop)]
+#[derive(Clone, Copy)]
 pub struct OperatorInfo {
     pub mode: OperatorMode,
     pub format: OperatorFormat,
     pub operator_name: OperatorName,
 }
 
-#[derive(Drop)]
+#[derive(Clone, Copy)]
 pub enum OperatorInfoAnswer {
     Value(OperatorInfo),
     Refused(u8),
 }
 
-#[derive(Drop)]
+#[derive(Clone, Copy)]
 enum ModeCode {
     Is(OperatorMode),
     Not,
 }
 
-#[derive(Drop)]
+#[derive(Clone, Copy)]
 enum FormatCode {
     Is(OperatorFormat),
     Not,
@@ -201,7 +201,7 @@ impl OperatorInfo {
 }
 
 // AT+COPS?
-#[derive(Drop)]
+#[derive(Clone, Copy)]
 pub struct GetOperatorInfo;
 
 impl GetOperatorInfo {
@@ -213,7 +213,7 @@ impl GetOperatorInfo {
 }
 
 // AT+COPS=1,2,"<plmn>": a manual choice, by the number of the operator.
-#[derive(Drop)]
+#[derive(Clone, Copy)]
 pub struct SetManualOperator;
 
 impl SetManualOperator {
@@ -259,7 +259,7 @@ fn lay_manual(plmn: &[u8], out: &mut [u8]) -> usize
 }
 
 // AT+COPS=0: the modem chooses.
-#[derive(Drop)]
+#[derive(Clone, Copy)]
 pub struct SetAutomaticOperator;
 
 impl SetAutomaticOperator {

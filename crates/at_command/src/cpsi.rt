@@ -11,7 +11,7 @@ use crate::request::Encoded;
 use crate::write;
 use text::{bytes, code, field, line, part, reader};
 
-#[derive(Drop)]
+#[derive(Clone, Copy)]
 pub enum SystemMode {
     NoService,
     Gsm,
@@ -19,7 +19,7 @@ pub enum SystemMode {
     LteNbIot,
 }
 
-#[derive(Drop)]
+#[derive(Clone, Copy)]
 pub enum OperationMode {
     Online,
     Offline,
@@ -28,25 +28,25 @@ pub enum OperationMode {
     LowPower,
 }
 
-#[derive(Drop)]
+#[derive(Clone, Copy)]
 pub struct SystemInfo {
     pub system_mode: SystemMode,
     pub operation_mode: OperationMode,
 }
 
-#[derive(Drop)]
+#[derive(Clone, Copy)]
 pub enum SystemInfoAnswer {
     Value(SystemInfo),
     Refused(u8),
 }
 
-#[derive(Drop)]
+#[derive(Clone, Copy)]
 enum SystemCode {
     Is(SystemMode),
     Not,
 }
 
-#[derive(Drop)]
+#[derive(Clone, Copy)]
 enum OperationCode {
     Is(OperationMode),
     Not,
@@ -117,7 +117,7 @@ impl SystemInfo {
 }
 
 // AT+CPSI?
-#[derive(Drop)]
+#[derive(Clone, Copy)]
 pub struct GetSystemInfo;
 
 impl GetSystemInfo {

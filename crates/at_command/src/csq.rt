@@ -11,25 +11,25 @@ use text::number::ParsedU8;
 use text::{bytes, line, number, part};
 
 // A percentage, where it is known.
-#[derive(Drop)]
+#[derive(Clone, Copy)]
 pub enum SignalLevel {
     None,
     Some(f32),
 }
 
-#[derive(Drop)]
+#[derive(Clone, Copy)]
 pub struct SignalQuality {
     pub signal_strength: SignalLevel,
     pub signal_quality: SignalLevel,
 }
 
-#[derive(Drop)]
+#[derive(Clone, Copy)]
 pub enum SignalQualityAnswer {
     Value(SignalQuality),
     Refused(u8),
 }
 
-#[derive(Drop)]
+#[derive(Clone, Copy)]
 enum LevelCode {
     Is(SignalLevel),
     Not,
@@ -138,7 +138,7 @@ impl SignalQuality {
 }
 
 // AT+CSQ
-#[derive(Drop)]
+#[derive(Clone, Copy)]
 pub struct GetSignalQuality;
 
 impl GetSignalQuality {

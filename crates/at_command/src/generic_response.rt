@@ -6,10 +6,10 @@ ghost use Rattle.at_command.specs.says.Generic.{ok_says, error_says, prompt_says
 use text::number::{ParsedU32, ParsedU64};
 use text::{bytes, line, number, part};
 
-#[derive(Drop)]
+#[derive(Clone, Copy)]
 pub struct GenericOk;
 
-#[derive(Drop)]
+#[derive(Clone, Copy)]
 pub enum SimError {
     // Generic error
     Generic,
@@ -21,33 +21,33 @@ pub enum SimError {
     CmsErr { code: u32 },
 }
 
-#[derive(Drop)]
+#[derive(Clone, Copy)]
 pub struct WritePrompt;
 
-#[derive(Drop)]
+#[derive(Clone, Copy)]
 pub struct CloseOk {
     pub connection: u64,
 }
 
-#[derive(Drop)]
+#[derive(Clone, Copy)]
 pub enum GenericOkAnswer {
     Value(GenericOk),
     Refused(u8),
 }
 
-#[derive(Drop)]
+#[derive(Clone, Copy)]
 pub enum SimErrorAnswer {
     Value(SimError),
     Refused(u8),
 }
 
-#[derive(Drop)]
+#[derive(Clone, Copy)]
 pub enum WritePromptAnswer {
     Value(WritePrompt),
     Refused(u8),
 }
 
-#[derive(Drop)]
+#[derive(Clone, Copy)]
 pub enum CloseOkAnswer {
     Value(CloseOk),
     Refused(u8),

@@ -15,13 +15,13 @@ use text::part::Place;
 use text::{bytes, digit, handed, line, part};
 
 // Where the digits stand, which is the whole line, and what they are: fifteen an IMEI, sixteen a version number (TS 23.003's IMEISV).
-#[derive(Drop)]
+#[derive(Clone, Copy)]
 pub struct Imei {
     pub imei: Place,
     pub is_version_number: bool,
 }
 
-#[derive(Drop)]
+#[derive(Clone, Copy)]
 pub enum ImeiAnswer {
     Value(Imei),
     Refused(u8),
@@ -122,7 +122,7 @@ impl Imei {
 }
 
 // AT+GSN
-#[derive(Drop)]
+#[derive(Clone, Copy)]
 pub struct GetImei;
 
 impl GetImei {

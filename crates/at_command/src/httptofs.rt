@@ -16,7 +16,7 @@ use crate::write;
 use text::number::ParsedU64;
 use text::{bytes, line, number, part};
 
-#[derive(Drop)]
+#[derive(Clone, Copy)]
 pub enum StatusCode {
     Continue,
     Ok,
@@ -34,20 +34,20 @@ pub enum StatusCode {
     OtherErrors,
 }
 
-#[derive(Drop)]
+#[derive(Clone, Copy)]
 pub struct DownloadInfo {
     pub status_code: StatusCode,
     pub data_length: u64,
 }
 
-#[derive(Drop)]
+#[derive(Clone, Copy)]
 pub enum DownloadInfoAnswer {
     Value(DownloadInfo),
     Refused(u8),
 }
 
 // Whether a download succeeded, or the code of why not.
-#[derive(Drop)]
+#[derive(Clone, Copy)]
 pub enum Success {
     Ok,
     Err(StatusCode),
@@ -178,7 +178,7 @@ impl DownloadInfo {
 }
 
 // AT+HTTPTOFS="<url>","<file_path>"
-#[derive(Drop)]
+#[derive(Clone, Copy)]
 pub struct DownloadToFileSystem;
 
 impl DownloadToFileSystem {

@@ -1,4 +1,6 @@
 // The modem's commands and the responses to them, a module for each file of the Rust's at_command; of what is ported, what that names at its root is named here.
+#![tactic(auto)]
+
 ghost use Rattle.std.specs.Prelude.{◌≡◌, drop};
 ghost use Rattle.text.specs.Reading.{first_of};
 ghost use Rattle.at_command.specs.Response.{readings, response_text};
@@ -44,7 +46,7 @@ pub mod straight;
 mod unquoted;
 mod write;
 
-#[derive(Drop)]
+#[derive(Clone, Copy)]
 pub enum ResponseCode {
     Ok(GenericOk),
     Error(SimError),
@@ -61,7 +63,7 @@ pub enum ResponseCode {
     SmsMessage(SmsMessage),
 }
 
-#[derive(Drop)]
+#[derive(Clone, Copy)]
 pub enum ResponseCodeAnswer {
     Value(ResponseCode),
     Refused(u8),

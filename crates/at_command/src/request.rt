@@ -14,14 +14,14 @@ use crate::gsn::GetImei;
 use crate::httptofs::DownloadToFileSystem;
 
 // The size of the command that was written, or the refusal: 5, 12, 6 or 7.
-#[derive(Drop)]
+#[derive(Clone, Copy)]
 pub enum Encoded {
     Size(usize),
     Refused(u8),
 }
 
 // The kinds of response, in the order of trial.
-#[derive(Drop)]
+#[derive(Clone, Copy)]
 pub enum ResponseKind {
     GenericOk,
     SimError,
@@ -83,14 +83,14 @@ impl ResponseKind {
 }
 
 // The answers that a request awaits, in order.
-#[derive(Drop)]
+#[derive(Clone, Copy)]
 pub enum Awaits {
     One(ResponseKind),
     Two(ResponseKind, ResponseKind),
 }
 
 // A request without its texts, which are lent beside it.
-#[derive(Drop)]
+#[derive(Clone, Copy)]
 pub enum Request {
     GetSignalQuality,
     ShowIccid,

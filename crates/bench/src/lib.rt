@@ -1,4 +1,6 @@
 // For oracle/bench: a feed by value, where an idle desk is made of its parts, fed, and taken apart again, beside the call that lends the parts; and the ordered trial.
+#![tactic(auto)]
+
 ghost use Rattle.bench.specs.Bench.{BenchFeedKeeps};
 ghost use Rattle.bench.specs.Sort.{SortInOrderKeeps};
 

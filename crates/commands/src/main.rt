@@ -1,4 +1,6 @@
 // Writes the command of each request of standard input.
+#![tactic(auto)]
+
 use answering::Program;
 
 fn main() {

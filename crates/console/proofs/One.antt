@@ -3,7 +3,7 @@ use mathlib.Core.Path.{◌≡◌, sym, ap, subst, ◌∙◌}
 use mathlib.Core.Bool.{cond}
 use mathlib.Core.List.{List}
 use Prim.Native.Nat.{ℕ, ◌-◌, ◌≤◌, ◌<◌}
-use native.Mathlib.Nat.{le_trans, le_antisymm, lt_irrefl, lt_of_lt_of_le, lt_of_not-le, le_of_suc_le_suc, pow-le-pow_right}
+use native.Mathlib.Nat.{le_trans, le_antisymm, lt_irrefl, lt_of_lt_of_le, lt_of_not-le, le_of_suc-le-suc, pow-le-pow_right}
 use native.Mathlib.Omega.{arith}
 use lib.Dec.{ltb}
 use lib.ListN.{length}
@@ -18,7 +18,7 @@ one_put s before x y at e f p q = (p.ends ∙ sym q.ends, p.holds ∙ sym q.hold
 -- of two counts of digits that are the fewest, none is the smaller
 no_fewer : (base least n k l : ℕ) → 0 < base → IsDigitCount base least n k → IsDigitCount base least n l → l ≤ k
 no_fewer base least n k l b f g =
-    le_of_suc_le_suc (lt_of_not-le (λ (h : k < l).
+    le_of_suc-le-suc (lt_of_not-le (λ (h : k < l).
     lt_irrefl n (lt_of_lt_of_le f.1 (le_trans (pow-le-pow_right b (omega arith)) (g.2 (omega (arith, f.0)))))))
 
 one_count : (base least n k l : ℕ) → 0 < base → IsDigitCount base least n k → IsDigitCount base least n l → k ≡ l

@@ -5,7 +5,7 @@ use mathlib.Core.Bool.{true, false, and-false}
 use mathlib.Core.Logic.{⊎_elim}
 use mathlib.Core.List.{List, [], ◌∷◌, ◌++◌, append-nil}
 use native.Mathlib.Omega.{arith}
-use lib.ListN.{length, get_or, length_append}
+use lib.ListN.{length, get_or, length-append}
 use lib.Seq.{length-take-le, get_or-take, append_snoc}
 use lib.Dec.{ltb, eqb}
 use borrow.Author.Tests.{le-ltb, ltb-true, ltb-false, eqb-true, eqb-false, ne_eqb}
@@ -75,8 +75,8 @@ short_checked l e =
 past_front : (h : List ℕ) (b : ℕ) (bs : List ℕ) → length (bare (h ++ b ∷ bs)) ≤ 256 → long (bare (h ++ b ∷ [])) ≡ false
 past_front h b [] e = le-ltb 256 (length (bare (h ++ b ∷ []))) e
 past_front h b (c ∷ cs) e =
-    let n = length_append h (b ∷ []) in
-    let m = length_append h (b ∷ c ∷ cs) in
+    let n = length-append h (b ∷ []) in
+    let m = length-append h (b ∷ c ∷ cs) in
     le-ltb 256 (length (bare (h ++ b ∷ []))) (omega (arith, (bare_bounds (h ++ b ∷ [])).0, (bare_bounds (h ++ b ∷ c ∷ cs)).1))
 
 -- nothing that begins with another byte is a prompt

@@ -6,7 +6,7 @@ use mathlib.Core.Logic.{⊎_elim}
 use mathlib.Core.List.{List}
 use mathlib.Core.Option.{Option, none, some}
 use native.Mathlib.Omega.{arith}
-use lib.ListN.{length, length_append}
+use lib.ListN.{length, length-append}
 use Rattle.text.specs.Bytes.{bytes, same, starts_with}
 use Rattle.text.specs.Reading.{read, refused}
 use Rattle.text.proofs.Begins.{same_is}
@@ -69,7 +69,7 @@ command_apart echo_mode a = echo_apart a
 
 pub command_some : (mode : Mode) (a : Asked) → SomeByte (command_for mode a).echo
 command_some plain_mode a = tt
-command_some echo_mode a = omega (arith, length_append (body_of a) (bytes "\r"))
+command_some echo_mode a = omega (arith, length-append (body_of a) (bytes "\r"))
 
 -- a request awaits at most two answers, in both modes
 pub command_few : (mode : Mode) (a : Asked) → length (command_for mode a).awaited ≤ 2

@@ -5,7 +5,7 @@ use mathlib.Core.Bool.{Bool, true, false, cond, ◌&&◌, not, and-true, and-fal
 use mathlib.Core.Logic.{⊎_elim}
 use mathlib.Core.List.{List, [], ◌∷◌, ◌++◌}
 use native.Mathlib.Omega.{arith}
-use lib.ListN.{length, take, drop, get_or, set, length_append}
+use lib.ListN.{length, take, drop, get_or, set, length-append}
 use lib.Seq.{length-take-le, take-suc, take-append_seam, drop-append_seam, append_snoc, set_split, take-suc-set}
 use lib.Dec.{ltb, eqb}
 use borrow.Author.Tests.{lt-ltb, le-ltb, ltb-false, eq-eqb, ne_eqb}
@@ -18,7 +18,7 @@ use Rattle.desk.specs.Search.{tray_of, Pushed, push_one, Past}
 use Rattle.text.proofs.Tests.{both, never}
 
 snoc_length : (h : List ℕ) (b : ℕ) → length (h ++ b ∷ []) ≡ length h + 1
-snoc_length h b = length_append h (b ∷ [])
+snoc_length h b = length-append h (b ∷ [])
 
 -- ---- the CR at a line's end
 

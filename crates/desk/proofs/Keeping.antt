@@ -6,7 +6,7 @@ use mathlib.Core.Logic.{⊎_elim}
 use mathlib.Core.List.{List, [], ◌∷◌, ◌++◌}
 use mathlib.Core.Option.{Option, none, some}
 use native.Mathlib.Omega.{arith}
-use lib.ListN.{length, take, drop, length_append, length-take}
+use lib.ListN.{length, take, drop, length-append, length-take}
 use lib.Seq.{length-take-le, take-append_seam}
 use lib.Dec.{ltb, eqb}
 use borrow.Author.Tests.{le-ltb, ltb-false, eqb-true, eqb-false, ne_eqb}
@@ -33,7 +33,7 @@ SomeByte (some sent) = 0 < length sent
 echo_back : (o : Option (List ℕ)) (old : List ℕ) → SomeByte o → echo_in (sent_in o old) (size_in o) ≡ o
 echo_back none old h = refl
 echo_back (some sent) old h =
-    rw (ne_eqb (length sent) 0 (λ e. omega arith), le-ltb (length (sent ++ drop (length sent) old)) (length sent) (omega (arith, length_append sent (drop (length sent) old))))
+    rw (ne_eqb (length sent) 0 (λ e. omega arith), le-ltb (length (sent ++ drop (length sent) old)) (length sent) (omega (arith, length-append sent (drop (length sent) old))))
     (rw (take-append_seam sent (drop (length sent) old)))
 
 pub keep_back : (c : Command) (k : Kept) → SomeByte c.echo → command_kept (keep c k) ≡ c

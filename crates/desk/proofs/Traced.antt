@@ -5,7 +5,7 @@ use mathlib.Core.Path.{◌≡◌, refl, sym, ap, subst, ◌∙◌}
 use mathlib.Core.List.{List, [], ◌∷◌, ◌++◌, append-nil}
 use mathlib.Core.Option.{Option, none, some, map}
 use native.Mathlib.Omega.{arith}
-use lib.ListN.{length, take, length_append}
+use lib.ListN.{length, take, length-append}
 use Rattle.trial.specs.Sort.{line_sort}
 use Rattle.text.proofs.Tests.{never}
 use Rattle.desk.specs.Cut.{View, held}
@@ -85,7 +85,7 @@ module _ (before : List ℕ) (s : State) (at : Stands before s) (chunk : List �
 
   -- one line more, where one is told
   one_more : (l : Line) → length (lines_of before ++ l ∷ []) ≡ suc (length (lines_of before))
-  one_more l = omega (arith, length_append (lines_of before) (l ∷ []))
+  one_more l = omega (arith, length-append (lines_of before) (l ∷ []))
 
   ordinal_is : (l : Line) → capped (suc s.command.counted) ≡ capped (length (lines_of before ++ l ∷ []))
   ordinal_is l = ap (λ (n : ℕ). capped (suc n)) at.counts ∙ capped_next (length (lines_of before)) ∙ ap capped (sym (one_more l))

@@ -1,4 +1,6 @@
 // The desk: a modem's bytes are cut into lines, and each line is an event of the open command, an unsolicited one or a stray.
+#![tactic(auto)]
+
 ghost use Rattle.text.specs.Gives.{Gives};
 ghost use Rattle.desk.specs.Judge.{event_number, stray_number};
 ghost use Rattle.desk.specs.Says.{event_says};

@@ -1,4 +1,6 @@
 // Says what each line of standard input says, in the formats of oracle/README.md.
+#![tactic(auto)]
+
 use answering::Program;
 
 fn main() {

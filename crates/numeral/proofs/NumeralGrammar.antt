@@ -8,7 +8,7 @@ use native.Mathlib.Nat.{pow-le-pow_right, add-zero, zero-add}
 use native.Mathlib.Numerals.{add-one}
 use native.Mathlib.Omega.{arith}
 use lib.Dec.{eqb, leb}
-use lib.ListN.{length, take, drop, length_append, drop_of_length-le}
+use lib.ListN.{length, take, drop, length-append, drop_of_length-le}
 use lib.Seq.{take-length, take-append_seam, drop-append-add}
 use borrow.Author.Tests.{ne_eqb, eqb-true, le-leb, leb-true}
 use Rattle.text.specs.Bytes.{bytes, starts_with, index_of}
@@ -149,4 +149,4 @@ small s d e =
     let r = sound s d e in
     let p : 10 ^ length r.digits ≤ 10 ^ 15 = pow-le-pow_right {n = 10} (omega arith) {i = length r.digits} {j = 15} r.at_most in
     let n = digits_length (r.front ++ r.back) r.digits r.are_digits in
-    (omega (arith, digits_value (r.front ++ r.back) r.digits r.are_digits, r.value), omega (arith, n, length_append r.front r.back, r.places, r.at_most))
+    (omega (arith, digits_value (r.front ++ r.back) r.digits r.are_digits, r.value), omega (arith, n, length-append r.front r.back, r.places, r.at_most))

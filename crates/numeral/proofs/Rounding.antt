@@ -3,7 +3,7 @@ use mathlib.Core.Path.{◌≡◌, refl, sym, ap, ◌∙◌, subst}
 use mathlib.Core.Logic.{◌⊎◌, inl, inr, ⊎_elim}
 use mathlib.Core.Bool.{Bool, true, false, ◌&&◌}
 use Prim.Native.Nat.{ℕ, zero, suc, ◌+◌, ◌-◌, ◌*◌, ◌/◌, ◌%◌, ◌^◌, ◌≤◌, ◌<◌}
-use native.Mathlib.Nat.{lt_irrefl, lt_of_not-le, le_of_suc_le_suc, mul-one, zero-mul, le_trans, le_of_eq, le_of_lt, lt_of_lt_of_le, lt_of_le_of_lt, eq-zero-or-pos, mul_comm, mul_assoc, mul-le-mul_right, mul-lt-mul_of_pos_right, mul-pos, le-div_iff_mul-le, div-lt_iff_lt-mul, div-le_self}
+use native.Mathlib.Nat.{lt_irrefl, lt_of_not-le, le_of_suc-le-suc, mul-one, zero-mul, le_trans, le_of_eq, le_of_lt, lt_of_lt_of_le, lt_of_le_of_lt, eq-zero-or-pos, mul_comm, mul_assoc, mul-le-mul_right, mul-lt-mul_of_pos_right, mul-pos, le-div_iff_mul-le, div-lt_iff_lt-mul, div-le_self}
 use native.Mathlib.Omega.{arith}
 use lib.Dec.{T, ltb, leb, eqb, ltb→lt, leb→le}
 use lib.Pow.{pow-add, pow_pos, pow_mono, pow-lt, shl_lt}
@@ -106,7 +106,7 @@ round_nearest s m D D-pos h =
 -- ---- every finite f32 has a magnitude of the form that `Nearest` goes over
 
 pow_le_back : (a l : ℕ) → 2 ^ a ≤ 2 ^ l → a ≤ l
-pow_le_back a l h = le_of_suc_le_suc (lt_of_not-le (λ (g : suc l ≤ a). lt_irrefl (2 ^ l) (lt_of_lt_of_le (pow-lt g) h)))
+pow_le_back a l h = le_of_suc-le-suc (lt_of_not-le (λ (g : suc l ≤ a). lt_irrefl (2 ^ l) (lt_of_lt_of_le (pow-lt g) h)))
 
 in_smallest : (s : Bool) (p : ℕ) (e : ℤ) → down e ≤ 2 ^ 149 → (j : ℕ) × HasValue (fin s p e) s (p * 2 ^ j) (2 ^ 149)
 in_smallest s p (pos a) h = (a + 149, (refl, mul_assoc p (2 ^ a) (2 ^ 149) ∙ ap (λ (x : ℕ). p * x) (sym (pow-add 2 a 149)) ∙ sym (mul-one (p * 2 ^ (a + 149)))))

@@ -1,5 +1,7 @@
 // A desk numeral, read as the nearest f32. The quotient of its digits by a power of ten is formed in whole numbers: the counts of leading
 // zero bits of the two fix the exponent, two divisions give 24 binary digits, and the remainder rounds them.
+#![tactic(auto)]
+
 ghost use Rattle.std.specs.Prelude.{◌≡◌, Bool, cond, ◌+◌, ◌*◌, ◌^◌, ◌≤◌, ◌<◌, length, drop};
 ghost use Rattle.std.specs.Float.Ieee as Ieee;
 ghost use Rattle.std.specs.Float.{binary32};
@@ -105,7 +107,7 @@ fn nearest(negative: bool, m: u64, k: usize) -> f32
 }
 
 // The decimal number / 10^places, or its negation; or none.
-#[derive(Drop)]
+#[derive(Clone, Copy)]
 enum Scanned {
     Exact {
         negative: bool,
@@ -172,7 +174,7 @@ fn scan(s: &[u8]) -> Scanned
 }
 
 // What a text is read as.
-#[derive(Drop)]
+#[derive(Clone, Copy)]
 pub enum Numeral {
     Value(f32),
     Refused,

@@ -1,4 +1,6 @@
 // Document 01's example: a desk with AT+CSQ open, fed with standard input.
+#![tactic(auto)]
+
 use showing::Mode;
 
 fn main() {

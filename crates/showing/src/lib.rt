@@ -1,4 +1,6 @@
 // What the show programs do: standard input goes to a desk with AT+CSQ open, in one mode or the other, and each event is printed with its line and the line's number.
+#![tactic(auto)]
+
 ghost use Rattle.std.specs.Prelude.{◌≡◌};
 ghost use Rattle.desk.specs.Desk.{after_bytes};
 ghost use Rattle.desk.specs.Says.{state_of, answer_says};

@@ -1,4 +1,6 @@
 // What firmware links: the readers, the writers and the desk as C functions on numbers and lent bytes. `specs/` says what each number means.
+#![tactic(auto)]
+
 mod codes;
 mod numbers;
 mod optional;

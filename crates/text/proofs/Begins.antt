@@ -1,5 +1,5 @@
 -- A line that begins with a text is that text and what follows it. Assumes nothing.
-use Rattle.std.proofs.Common.{◌≡◌, ℕ, zero, suc, ◌≤◌, Bool, true, ◌&&◌, eqb, List, [], ◌∷◌, ◌++◌, length, take, drop, sym, refl, ap, ◌∙◌, subst, append-nil, arith, length_append, drop_of_length-le, eqb-true}
+use Rattle.std.proofs.Common.{◌≡◌, ℕ, zero, suc, ◌≤◌, Bool, true, ◌&&◌, eqb, List, [], ◌∷◌, ◌++◌, length, take, drop, sym, refl, ap, ◌∙◌, subst, append-nil, arith, length-append, drop_of_length-le, eqb-true}
 use Rattle.text.specs.Bytes.{starts_with, same}
 use Rattle.text.proofs.Tests.{never, and_left, and_right}
 
@@ -37,7 +37,7 @@ same_is s t e =
     begins_split t s (begins_same t s e) ∙ ap (λ (l : List ℕ). t ++ l) (drop_of_length-le s few) ∙ append-nil t
 
 pub begins_size : (p s : List ℕ) → starts_with p s ≡ true → length p ≤ length s
-begins_size p s e = let z = ap length (begins_split p s e) ∙ length_append p (drop (length p) s) in omega arith
+begins_size p s e = let z = ap length (begins_split p s e) ∙ length-append p (drop (length p) s) in omega arith
 
 -- a text at the front: what follows is of no matter where enough stands before it
 pub starts_in : (d q t : List ℕ) → length d ≤ length q → starts_with d (q ++ t) ≡ starts_with d q

@@ -1,5 +1,5 @@
 -- Rules of many numbers, each by one test or one list that is computed: of every number below a bound, of every entry of a table, of a signed number.
-use Rattle.std.proofs.Common.{◌≡◌, ℕ, zero, suc, ◌+◌, ◌^◌, ◌<◌, Bool, true, false, ◌&&◌, T, eqb, ltb, List, [], ◌∷◌, get_or, ℤ, pos, negsuc, sym, ap, ◌∙◌, subst, inl, inr, le_of_suc_le_suc, not-suc-le-zero, eq-or-lt_of_le, zero-add, arith, eqb→eq, ltb→lt, SFits}
+use Rattle.std.proofs.Common.{◌≡◌, ℕ, zero, suc, ◌+◌, ◌^◌, ◌<◌, Bool, true, false, ◌&&◌, T, eqb, ltb, List, [], ◌∷◌, get_or, ℤ, pos, negsuc, sym, ap, ◌∙◌, subst, inl, inr, le_of_suc-le-suc, not-suc-le-zero, eq-or-lt_of_le, zero-add, arith, eqb→eq, ltb→lt, SFits}
 use lib.Ieee.Fits.{and_l, and_r}
 use lib.Signed.{mag}
 use mir.Syntax.{Width}
@@ -13,7 +13,7 @@ every_below (suc n) f = every_below n f && f n
 
 pub below : (n : ℕ) (f : ℕ → Bool) → T (every_below n f) → (k : ℕ) → k < n → T (f k)
 below zero f t k h = absurd (not-suc-le-zero h)
-below (suc n) f t k h = elim (eq-or-lt_of_le (le_of_suc_le_suc h)) [
+below (suc n) f t k h = elim (eq-or-lt_of_le (le_of_suc-le-suc h)) [
   | inl e ↦ subst (λ (x : ℕ). T (f x)) (sym e) (and_r (every_below n f) (f n) t)
   | inr l ↦ below n f (and_l (every_below n f) (f n) t) k l
 ]
@@ -27,7 +27,7 @@ module _ {A : Type 0} (f : ℕ → A) where
   from : (d : A) (i n k : ℕ) → k < n → get_or (tabled i n) k d ≡ f (i + k)
   from d i zero k h = absurd (not-suc-le-zero h)
   from d i (suc n) zero h = ap f (omega arith)
-  from d i (suc n) (suc k) h = from d (suc i) n k (le_of_suc_le_suc h) ∙ ap f (omega arith)
+  from d i (suc n) (suc k) h = from d (suc i) n k (le_of_suc-le-suc h) ∙ ap f (omega arith)
 
   pub entry : (d : A) (n k : ℕ) → k < n → get_or (tabled 0 n) k d ≡ f k
   entry d n k h = from d 0 n k h ∙ ap f (zero-add k)

@@ -31,5 +31,4 @@ pub mod Utf8Cuts
 pub mod Utf8Grammar
 pub mod Utf8Laws
 pub mod Utf8Walk
-pub mod Walk
 pub mod Yields

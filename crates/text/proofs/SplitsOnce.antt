@@ -1,6 +1,6 @@
 -- A line begins with a prefix p and the text d, as ": ", exactly when Rust's `split_once(d)` gives p before d, and what that gives behind it is then the rest
 -- of the line: for every p in which no d begins with d behind it (`clear_of`), which is computed for each prefix. Assumes nothing.
-use Rattle.std.proofs.Common.{◌≡◌, ℕ, ◌+◌, Bool, true, false, cond, not, List, [], ◌∷◌, ◌++◌, length, drop, sym, refl, ap, ◌∙◌, arith, length_append, eq-eqb}
+use Rattle.std.proofs.Common.{◌≡◌, ℕ, ◌+◌, Bool, true, false, cond, not, List, [], ◌∷◌, ◌++◌, length, drop, sym, refl, ap, ◌∙◌, arith, length-append, eq-eqb}
 use mathlib.Core.Option.{Option, none, some, map}
 use lib.Seq.{drop-append_seam, drop-nil}
 use borrow.Author.Tests.{not-true}
@@ -27,7 +27,7 @@ module _ (d : List ℕ) where
   unfolding split_once
   split_line [] t h = split_here (d ++ t) (starts_self d t) ∙ ap (λ (l : List ℕ). some (halves [] l)) (drop-append_seam d t)
   split_line (x ∷ p) t h =
-      let far : starts_with d (x ∷ ((p ++ d) ++ t)) ≡ false = starts_in d (x ∷ (p ++ d)) t (omega (arith, length_append p d)) ∙ not-true _ (and_left _ _ h) in
+      let far : starts_with d (x ∷ ((p ++ d) ++ t)) ≡ false = starts_in d (x ∷ (p ++ d)) t (omega (arith, length-append p d)) ∙ not-true _ (and_left _ _ h) in
       rw (far, split_line p t (and_right (not (starts_with d (x ∷ (p ++ d)))) _ h))
 
   -- a line that is split is its halves with d between them
@@ -52,11 +52,11 @@ module _ (d : List ℕ) where
         gives = λ e.
             ap (split_once d) (begins_split (p ++ d) s e)
             ∙ split_line p (drop (length (p ++ d)) s) h
-            ∙ ap (λ (n : ℕ). some (halves p (drop n s))) (length_append p d);
+            ∙ ap (λ (n : ℕ). some (halves p (drop n s))) (length-append p d);
         begins = λ r e.
             let w : s ≡ (p ++ d) ++ r = split_whole s (halves p r) e in (
               ap (starts_with (p ++ d)) w ∙ starts_self (p ++ d) r,
-              sym (ap (drop (length p + length d)) w ∙ ap (λ (n : ℕ). drop n ((p ++ d) ++ r)) (sym (length_append p d)) ∙ drop-append_seam (p ++ d) r),
+              sym (ap (drop (length p + length d)) w ∙ ap (λ (n : ℕ). drop n ((p ++ d) ++ r)) (sym (length-append p d)) ∙ drop-append_seam (p ++ d) r),
             );
       }
 

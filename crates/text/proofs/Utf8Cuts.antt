@@ -1,5 +1,5 @@
 -- A part that ends inside a character ends with a byte that is no digit, so it is no number.
-use Rattle.std.proofs.Common.{◌≡◌, ℕ, zero, suc, ◌+◌, ◌-◌, ◌<◌, ◌≤◌, Bool, true, false, ◌||◌, leb, List, [], ◌∷◌, ◌++◌, length, get_or, take, drop, sym, refl, ap, arith, length_append, length-drop, length-take-le, get_or-drop, get_or-take, get_or-append-add, leb-true}
+use Rattle.std.proofs.Common.{◌≡◌, ℕ, zero, suc, ◌+◌, ◌-◌, ◌<◌, ◌≤◌, Bool, true, false, ◌||◌, leb, List, [], ◌∷◌, ◌++◌, length, get_or, take, drop, sym, refl, ap, arith, length-append, length-drop, length-take-le, get_or-drop, get_or-take, get_or-append-add, leb-true}
 use mathlib.Core.Option.{none}
 use lib.ListN.{get_or-append}
 use Rattle.text.specs.Bytes.{within}
@@ -40,7 +40,7 @@ wide_above c k l n h = fit_above k.row c k.fit (go (leb (length k.row) 1) refl (
 -- so the byte before a place inside a character does
 module _ (s : List ℕ) (at : ℕ) (i : Inside s at) where
   in_text : at ≤ length s
-  in_text = rw i.text (omega (arith, length_append i.front (i.character ++ i.back), length_append i.character i.back, i.before_end))
+  in_text = rw i.text (omega (arith, length-append i.front (i.character ++ i.back), length-append i.character i.back, i.before_end))
 
   pub above_at : 0x80 ≤ get_or s (at - 1) 0
   above_at =

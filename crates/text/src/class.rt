@@ -37,7 +37,7 @@ const CLASSES: [u8; 256] = [
 ];
 
 // The classes of two bytes, such as those at a line's ends.
-#[derive(Drop)]
+#[derive(Clone, Copy)]
 pub struct Classes {
     pub first: u8,
     pub last: u8,

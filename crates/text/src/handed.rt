@@ -7,14 +7,14 @@ use crate::part;
 use crate::part::Place;
 
 // The text, empty where it is absent or refused, and 0 or the number of the refusal.
-#[derive(Drop)]
+#[derive(Clone, Copy)]
 pub struct LineText<'a> {
     pub text: &'a [u8],
     pub refusal: u8,
 }
 
 // Where the text stands: in the line, or in the text lent for it where the line has none.
-#[derive(Drop)]
+#[derive(Clone, Copy)]
 pub struct TextAt {
     pub refusal: u8,
     pub in_fallback: bool,

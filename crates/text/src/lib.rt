@@ -1,4 +1,6 @@
 // The bytes of a line: tests, parts, fields, numbers, UTF-8, and the check that every line passes first.
+#![tactic(auto)]
+
 pub mod bytes;
 pub mod class;
 pub mod code;

@@ -7,31 +7,31 @@ ghost use Rattle.text.specs.says.Number.{U8Keeps, U16Keeps, U32Keeps, U64Keeps, 
 use crate::{bytes, digit};
 
 // A number that was read, or none.
-#[derive(Drop)]
+#[derive(Clone, Copy)]
 pub enum ParsedU8 {
     Is(u8),
     Not,
 }
 
-#[derive(Drop)]
+#[derive(Clone, Copy)]
 pub enum ParsedU16 {
     Is(u16),
     Not,
 }
 
-#[derive(Drop)]
+#[derive(Clone, Copy)]
 pub enum ParsedU32 {
     Is(u32),
     Not,
 }
 
-#[derive(Drop)]
+#[derive(Clone, Copy)]
 pub enum ParsedU64 {
     Is(u64),
     Not,
 }
 
-#[derive(Drop)]
+#[derive(Clone, Copy)]
 pub enum ParsedI32 {
     Is(i32),
     Not,

@@ -7,7 +7,7 @@ ghost use Rattle.text.specs.Part.{IsPart, part_of, before, after, trim_end, trim
 use crate::bytes;
 
 // Where a text stands in its line.
-#[derive(Drop)]
+#[derive(Clone, Copy)]
 pub struct Place {
     pub start: usize,
     pub end: usize,

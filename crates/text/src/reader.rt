@@ -8,7 +8,7 @@ ghost use Rattle.text.specs.says.Reader.{ReaderKeeps};
 use crate::{bytes, part};
 
 // The line, and where the next field to be read begins; one past the end where all are read.
-#[derive(Drop)]
+#[derive(Clone, Copy)]
 pub struct FieldReader<'a> {
     pub line: &'a [u8],
     pub at: usize,

@@ -1,5 +1,7 @@
 // Reads a line, whichever reader takes it. Here the readers are tried in their order, both trials in turn behind one check of the line's length and of its UTF-8; `straight` asks
 // the one that could take the line.
+#![tactic(auto)]
+
 mod row;
 pub mod straight;
 
@@ -10,7 +12,7 @@ use at_command::{ResponseCode, ResponseCodeAnswer};
 use unsolicited::{Urc, UrcAnswer};
 
 // What a line says.
-#[derive(Drop)]
+#[derive(Clone, Copy)]
 pub enum Line {
     Response(ResponseCode),
     Unsolicited(Urc),
@@ -18,7 +20,7 @@ pub enum Line {
 }
 
 // What a line is to a desk.
-#[derive(Drop)]
+#[derive(Clone, Copy)]
 pub enum Sort {
     Refused(u8),
     Response(ResponseKind),
@@ -26,7 +28,7 @@ pub enum Sort {
 }
 
 // Which reader takes a line: a response's kind, or one of the two unsolicited ones.
-#[derive(Drop)]
+#[derive(Clone, Copy)]
 pub enum Taker {
     Refused(u8),
     Response(ResponseKind),

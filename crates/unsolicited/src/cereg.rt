@@ -12,7 +12,7 @@ use crate::network_registration::{NetworkRegistration, NetworkRegistrationAnswer
 use text::number::{ParsedI32, ParsedU16, ParsedU32};
 use text::{bytes, field, line, number, part, reader};
 
-#[derive(Drop)]
+#[derive(Clone, Copy)]
 pub struct CEReg;
 
 // The number of the status.

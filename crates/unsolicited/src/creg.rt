@@ -8,7 +8,7 @@ use crate::network_registration;
 use crate::network_registration::NetworkRegistrationAnswer;
 use text::{bytes, line, part};
 
-#[derive(Drop)]
+#[derive(Clone, Copy)]
 pub struct CReg;
 
 impl CReg {

@@ -1,4 +1,6 @@
 // The modem's unsolicited codes, a module for each file of the Rust's at_command/unsolicited, and their trial.
+#![tactic(auto)]
+
 mod calendar;
 pub mod cereg;
 pub mod cgreg;
@@ -16,13 +18,13 @@ use crate::network_registration::{NetworkRegistration, NetworkRegistrationAnswer
 use crate::ugnsinf::{GnssReport, GnssReportAnswer};
 use text::{bytes, line};
 
-#[derive(Drop)]
+#[derive(Clone, Copy)]
 pub enum Urc {
     GnssReport(GnssReport),
     NetworkRegistration(NetworkRegistration),
 }
 
-#[derive(Drop)]
+#[derive(Clone, Copy)]
 pub enum UrcAnswer {
     Value(Urc),
     Refused(u8),

@@ -13,7 +13,7 @@ use crate::creg::CReg;
 use text::number::{ParsedI32, ParsedU16, ParsedU32};
 use text::{field, line, number, part, reader};
 
-#[derive(Drop)]
+#[derive(Clone, Copy)]
 pub enum RegistrationStatus {
     NotRegistered,
     RegisteredHome,
@@ -23,7 +23,7 @@ pub enum RegistrationStatus {
     RegisteredRoaming,
 }
 
-#[derive(Drop)]
+#[derive(Clone, Copy)]
 pub struct NetworkRegistration {
     pub status: RegistrationStatus,
     // Location area code.
@@ -32,7 +32,7 @@ pub struct NetworkRegistration {
     pub ci: ParsedU32,
 }
 
-#[derive(Drop)]
+#[derive(Clone, Copy)]
 pub enum NetworkRegistrationAnswer {
     Value(NetworkRegistration),
     Refused(u8),

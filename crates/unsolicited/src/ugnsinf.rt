@@ -14,7 +14,7 @@ use numeral::Numeral;
 use text::number::ParsedU32;
 use text::{bytes, digit, line, number, part, reader};
 
-#[derive(Drop)]
+#[derive(Clone, Copy)]
 pub struct DateTime {
     pub year: u16,
     pub month: u8,
@@ -24,7 +24,7 @@ pub struct DateTime {
     pub second: u8,
 }
 
-#[derive(Drop)]
+#[derive(Clone, Copy)]
 pub enum ParsedDateTime {
     Is(DateTime),
     Not,
@@ -109,7 +109,7 @@ impl DateTime {
     }
 }
 
-#[derive(Drop)]
+#[derive(Clone, Copy)]
 pub struct GnssFix {
     pub date_time: DateTime,
     pub latitude: f32,
@@ -126,14 +126,14 @@ pub struct GnssFix {
     pub signal_noise_ratio: u32,
 }
 
-#[derive(Drop)]
+#[derive(Clone, Copy)]
 pub enum GnssReport {
     NotEnabled,
     NoFix { sat_gps_view: ParsedU32 },
     Fix(GnssFix),
 }
 
-#[derive(Drop)]
+#[derive(Clone, Copy)]
 pub enum GnssReportAnswer {
     Value(GnssReport),
     Refused(u8),
@@ -156,13 +156,13 @@ fn is_one(rest: &[u8], places: &[usize; 22], n: usize) -> bool
 }
 
 // What a field says, and whether it is readable.
-#[derive(Drop)]
+#[derive(Clone, Copy)]
 struct Float {
     good: bool,
     value: f32,
 }
 
-#[derive(Drop)]
+#[derive(Clone, Copy)]
 struct Count {
     good: bool,
     value: u32,

@@ -1,9 +1,0 @@
-use borrow.Author.Rules.{rules}
-use Rattle.at_command.specs.Response.{readings}
-use Rattle.at_command.proofs.TrialSteps.{trial}
-use Rattle.at_command.proofs.later_readers.Statement.{statement}
-use Rattle.at_command.proofs.later_readers.Tie as tie
-
-pub later-readers-spec : {M : Type 1} → statement M
-unfolding readings
-later-readers-spec = tie.close (tie.spec (λ c κs. search rules) (λ c. search rules) (λ c. search trial) (λ c. search rules) (λ c κs. search rules) (λ c κs. search rules) (λ c. search rules) (λ c. search trial) (λ c. search rules) (λ c κs. search rules) (λ c κs. search rules) (λ c. search rules) (λ c. search trial) (λ c. search rules) (λ c κs. search rules) (λ c. search rules) (λ c. search rules) (λ c κs. search rules) (λ c. search rules) (λ c. search rules) (λ c κs. search rules) (λ c κs. search rules) (λ c. search trial) (λ c. search trial))

@@ -1,7 +1,0 @@
--- Each request by itself. Assumes nothing.
-use borrow.Author.Rules.{rules}
-use Rattle.at_command.proofs.request.Request.awaits.Statement.{statement}
-use Rattle.at_command.proofs.request.Request.awaits.Tie as tie
-
-pub awaits-spec : {M : Type 1} → statement M
-awaits-spec = tie.close (tie.spec (λ c. search rules) (λ c. search rules) (λ c. search rules) (λ c. search rules) (λ c. search rules) (λ c. search rules) (λ c. search rules) (λ c. search rules) (λ c. search rules) (λ c. search rules) (λ c. search rules) (λ c. search rules) (λ c. search rules) (λ c. rw c.enum_told.given.1) (λ c. rw c.enum-told2.given.1) (λ c. rw c.enum-told3.given.1) (λ c. rw c.enum-told4.given.1) (λ c. rw c.enum-told5.given.1) (λ c. rw c.enum-told6.given.1) (λ c. rw c.enum-told7.given.1) (λ c. rw c.enum-told8.given.1) (λ c. rw c.enum-told9.given.1) (λ c. rw c.enum-told10.given.1) (λ c. rw c.enum-told11.given.1) (λ c. rw c.enum-told12.given.1) (λ c. rw c.enum-told13.given.1))

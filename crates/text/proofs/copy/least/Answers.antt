@@ -1,0 +1,8 @@
+use Rattle.text.proofs.Copying.{least_first, least_second}
+use Rattle.text.proofs.copy.least.Goals as goal
+
+pub returns-then-a-b : goal.returns-then-a-b
+returns-then-a-b c = search least_first
+
+pub returns : goal.returns
+returns c = search least_second
