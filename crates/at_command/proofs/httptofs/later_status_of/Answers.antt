@@ -1,4 +1,8 @@
+use Rattle.at_command.proofs.httptofs.Laws.{passed, held}
+use borrow.Author.Rules.{rules}
 use Rattle.at_command.proofs.httptofs.later_status_of.Goals as goal
+
+ruleset statuses = (rules, passed, held)
 
 pub returns-then-is_text : goal.returns-then-is_text
 returns-then-is_text c = search statuses

@@ -27,4 +27,4 @@ pub returns-in-Refused-from_checked-3 : goal.returns-in-Refused-from_checked-3
 returns-in-Refused-from_checked-3 c = search message_leaves
 
 pub returns-in_default : goal.returns-in_default
-returns-in_default c = past_last _ _ (omega (arith, c.requires, c.in_default.rest))
+returns-in_default c = past_last _ _ (omega arith)

@@ -32,4 +32,4 @@ returns-in-12 c = let m = c in forgets Cmgr.says message cmgr_text 12 (λ l. ref
 
 pub returns-in_default : goal.returns-in_default
 unfolding reading_at readings
-returns-in_default c = ap refusal_in (past_last _ c.args.place (omega (arith, c.requires, c.in_default.rest)))
+returns-in_default c = ap refusal_in (past_last _ c.args.place (omega arith))

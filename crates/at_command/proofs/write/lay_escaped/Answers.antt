@@ -6,10 +6,10 @@ use borrow.Author.Rules.{rules}
 use Rattle.at_command.proofs.Laying.{lay_none, room_one, room_two, escape_one, escape_two, escape_all}
 use Rattle.at_command.proofs.write.lay_escaped.Goals as goal
 
-room₂ : (c : tie.Then1 invariant-loop decreases-loop) → c.before.before.before.before.loop.e + 2 ≤ length c.before.before.before.before.before.before.before.args.out.now
+room₂ : (c : goal.Then-is_marked) → c.loop-i.e + 2 ≤ length c.args.out.now
 room₂ c = search room_two
 
-room₁ : (c : tie.Else1 invariant-loop decreases-loop) → c.before.before.before.before.loop.e + 1 ≤ length c.before.before.before.before.before.before.before.args.out.now
+room₁ : (c : goal.Else-is_marked) → c.loop-i.e + 1 ≤ length c.args.out.now
 room₁ c = search room_one
 
 pub loop-i-init : goal.loop-i-init

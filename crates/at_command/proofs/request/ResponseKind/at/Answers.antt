@@ -1,5 +1,5 @@
 -- `at` meets its contract, number by number; from 12 on it is the last.
-use Rattle.text.proofs.Codes.{past_others}
+use Rattle.std.proofs.Common.{arith}
 use Rattle.at_command.specs.Kind.{kind_at}
 use Rattle.at_command.proofs.KindPlaces.{kind_past}
 use Rattle.at_command.proofs.request.ResponseKind.at.Goals as goal
@@ -54,4 +54,4 @@ returns-in-11 c = rw c.in-11.is
 
 pub returns-in_default : goal.returns-in_default
 unfolding kind_at
-returns-in_default c = kind_past _ (past_others _ 12 c.in_default.rest)
+returns-in_default c = kind_past _ (omega arith)
