@@ -4,7 +4,7 @@ use Rattle.trial.proofs.Line.sort.Goals as goal
 
 pub returns-in-Response : goal.returns-in-Response
 unfolding mapped
-returns-in-Response c = rw (c.kind-kind.ensures, c.self-1.given.1)
+returns-in-Response c = rw (c.kind-kind.ensures, c.in-Response.is)
 
 pub returns-in-Unsolicited : goal.returns-in-Unsolicited
 unfolding mapped
@@ -12,4 +12,4 @@ returns-in-Unsolicited c = rw c.in-Unsolicited.is
 
 pub returns-in-Refused : goal.returns-in-Refused
 unfolding mapped
-returns-in-Refused c = rw c.self-in-Refused-1.given.1
+returns-in-Refused c = rw c.in-Refused.is

@@ -1,3 +1,4 @@
+use Rattle.std.proofs.Common.{arith}
 -- Each return: the row by the bytes that are known there.
 use mathlib.Core.Path.{refl, subst}
 use mathlib.Core.List.{[], ◌∷◌}
@@ -32,4 +33,4 @@ pub returns-in-78 : goal.returns-in-78
 returns-in-78 c l f = at_letter 43 67 _ _ _ l f 8 refl (rw c.in-78.is)
 
 pub returns-in_default : goal.returns-in_default
-returns-in_default c l f = at_none 43 67 _ _ _ l f (rw (ne_eqb _ 82 c.in_default.rest.0.0.0.0.0.0.0.1, ne_eqb _ 71 c.in_default.rest.0.0.0.0.0.0.1, ne_eqb _ 69 c.in_default.rest.0.0.0.0.0.1, ne_eqb _ 83 c.in_default.rest.0.0.0.0.1, ne_eqb _ 77 c.in_default.rest.0.0.0.1, ne_eqb _ 80 c.in_default.rest.0.0.1, ne_eqb _ 79 c.in_default.rest.0.1, ne_eqb _ 78 c.in_default.rest.1))
+returns-in_default c l f = at_none 43 67 _ _ _ l f (rw (ne_eqb c.args.c 82 (λ e. omega arith), ne_eqb c.args.c 71 (λ e. omega arith), ne_eqb c.args.c 69 (λ e. omega arith), ne_eqb c.args.c 83 (λ e. omega arith), ne_eqb c.args.c 77 (λ e. omega arith), ne_eqb c.args.c 80 (λ e. omega arith), ne_eqb c.args.c 79 (λ e. omega arith), ne_eqb c.args.c 78 (λ e. omega arith)))

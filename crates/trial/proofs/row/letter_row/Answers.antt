@@ -1,3 +1,4 @@
+use Rattle.std.proofs.Common.{arith}
 -- Each return: the row by the bytes that are known there.
 use mathlib.Core.Path.{subst}
 use mathlib.Core.List.{[], ◌∷◌}
@@ -23,4 +24,4 @@ pub returns-in-62 : goal.returns-in-62
 returns-in-62 c l f = at_letter _ _ _ _ _ l f 2 (rw c.in-62.is) (rw c.in-62.is)
 
 pub returns-in_default : goal.returns-in_default
-returns-in_default c l f = at_none _ _ _ _ _ l f (rw (ne_eqb _ 43 c.in_default.rest.0.0.0.0.1, ne_eqb _ 79 c.in_default.rest.0.0.0.1, ne_eqb _ 83 c.in_default.rest.0.0.1, ne_eqb _ 69 c.in_default.rest.0.1, ne_eqb _ 62 c.in_default.rest.1))
+returns-in_default c l f = at_none _ _ _ _ _ l f (rw (ne_eqb c.args.a 43 (λ e. omega arith), ne_eqb c.args.a 79 (λ e. omega arith), ne_eqb c.args.a 83 (λ e. omega arith), ne_eqb c.args.a 69 (λ e. omega arith), ne_eqb c.args.a 62 (λ e. omega arith)))

@@ -1,3 +1,4 @@
+use Rattle.std.proofs.Common.{arith}
 -- Each return: the row by the bytes that are known there.
 use mathlib.Core.Path.{subst}
 use mathlib.Core.List.{[], ◌∷◌}
@@ -17,4 +18,4 @@ pub returns-in-72 : goal.returns-in-72
 returns-in-72 c l f = at_letter 43 _ _ _ _ l f 9 (rw c.in-72.is) (rw c.in-72.is)
 
 pub returns-in_default : goal.returns-in_default
-returns-in_default c l f = at_none 43 _ _ _ _ l f (rw (ne_eqb _ 67 c.in_default.rest.0.0.1, ne_eqb _ 85 c.in_default.rest.0.1, ne_eqb _ 72 c.in_default.rest.1))
+returns-in_default c l f = at_none 43 _ _ _ _ l f (rw (ne_eqb c.args.b 67 (λ e. omega arith), ne_eqb c.args.b 85 (λ e. omega arith), ne_eqb c.args.b 72 (λ e. omega arith)))

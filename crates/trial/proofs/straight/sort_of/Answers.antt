@@ -4,11 +4,11 @@ use Rattle.trial.proofs.straight.sort_of.Goals as goal
 
 pub returns-in-Refused : goal.returns-in-Refused
 unfolding mapped
-returns-in-Refused c = sort_taken _ _ _ c.taker.ensures (rw c.k-1.given.1)
+returns-in-Refused c = sort_taken _ _ _ c.taker.ensures (rw c.in-Refused.is)
 
 pub returns-in-Response : goal.returns-in-Response
 unfolding mapped
-returns-in-Response c = sort_taken _ _ _ c.taker.ensures (rw c.kind-1.given.1)
+returns-in-Response c = sort_taken _ _ _ c.taker.ensures (rw c.in-Response.is)
 
 pub returns-in-GnssReport : goal.returns-in-GnssReport
 unfolding mapped
