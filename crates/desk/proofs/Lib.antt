@@ -13,8 +13,6 @@ pub mod Slips
 pub mod Demand
 pub mod Traced
 pub mod Accepted
-pub mod Lending
-pub mod OpeningLent
 pub mod Unchanged
 pub mod Lives
 pub mod One

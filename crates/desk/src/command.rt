@@ -6,7 +6,7 @@ ghost use Rattle.desk.specs.Says.{command_says};
 
 use at_command::request::{Awaits, ResponseKind};
 
-#[derive(Drop)]
+#[derive(Clone, Copy)]
 pub enum Command {
     Idle,
     One(ResponseKind),

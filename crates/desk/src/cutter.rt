@@ -8,14 +8,14 @@ ghost use Rattle.desk.specs.Says.{piece_says, pushed_says, found_says};
 use text::copy;
 
 // The bytes of the line that is coming: line[..len] where len is at most 257. Above 257 the line is being dropped.
-#[derive(Drop)]
+#[derive(Clone, Copy)]
 pub struct Cutter {
     pub line: [u8; 257],
     pub len: usize,
 }
 
 // What a byte completes: nothing, an empty line, a line past its length, or the first bytes of the buffer, so many.
-#[derive(Drop)]
+#[derive(Clone, Copy)]
 pub enum Piece {
     Nothing,
     Blank,
@@ -24,14 +24,14 @@ pub enum Piece {
 }
 
 // How many bytes are held after a byte, and what it completes.
-#[derive(Drop)]
+#[derive(Clone, Copy)]
 pub struct Pushed {
     pub len: usize,
     pub piece: Piece,
 }
 
 // How a search ends: the bytes taken, how many are held after them, and the piece that the search stopped at.
-#[derive(Drop)]
+#[derive(Clone, Copy)]
 pub struct Found {
     pub taken: usize,
     pub len: usize,

@@ -13,7 +13,7 @@ use text::{copy, part};
 use trial::straight;
 
 // The refusal, 10; or the bytes taken with no event; or the event, the ordinal of its line, the bytes taken and the size of the line.
-#[derive(Drop)]
+#[derive(Clone, Copy)]
 pub enum FedAnswer {
     Refused(u8),
     Quiet(usize),
@@ -25,14 +25,14 @@ pub enum FedAnswer {
     },
 }
 
-#[derive(Drop)]
+#[derive(Clone, Copy)]
 pub struct Fed {
     pub desk: Desk,
     pub answer: FedAnswer,
 }
 
 // The answer of a feed on a desk that is lent in parts.
-#[derive(Drop)]
+#[derive(Clone, Copy)]
 pub struct FedParts {
     pub len: usize,
     pub command: Command,
@@ -42,7 +42,7 @@ pub struct FedParts {
 }
 
 // What a line is, and the command after it with the size of the echo that it then awaits.
-#[derive(Drop)]
+#[derive(Clone, Copy)]
 struct LineRuled {
     command: Command,
     echo: usize,
@@ -50,7 +50,7 @@ struct LineRuled {
 }
 
 // The answer to a piece, and the command and the count after it likewise.
-#[derive(Drop)]
+#[derive(Clone, Copy)]
 struct Ruled {
     command: Command,
     echo: usize,

@@ -12,7 +12,7 @@ use at_command::request::ResponseKind;
 use trial::Sort;
 
 // An event, and the command after it.
-#[derive(Drop)]
+#[derive(Clone, Copy)]
 pub struct Judged {
     pub command: Command,
     pub event: Event,

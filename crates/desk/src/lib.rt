@@ -23,7 +23,7 @@ pub use open::{Opened, OpenedParts, open_echo_on, open_on};
 
 // The line that is coming, the answers that the open command awaits, and what was sent: sent[..echo] is the echo that comes first. None does where echo is 0, or
 // above 210, which no command is longer than. Last, the lines counted since the last accepted open or reset.
-#[derive(Drop)]
+#[derive(Clone, Copy)]
 pub struct Desk {
     pub cutter: Cutter,
     pub command: Command,
@@ -33,7 +33,7 @@ pub struct Desk {
 }
 
 // What a line, or the end of one past its length, tells.
-#[derive(Drop)]
+#[derive(Clone, Copy)]
 pub enum Event {
     Overlong,
     Stray(u8),

@@ -8,14 +8,14 @@ use at_command::request::{Encoded, Request};
 use text::{copy, part};
 
 // The size of the command that was written, or the refusal: 8, 9, 5, 12, 6, 7.
-#[derive(Drop)]
+#[derive(Clone, Copy)]
 pub struct Opened {
     pub desk: Desk,
     pub answer: Encoded,
 }
 
 // The answer of an open on a desk that is lent in parts.
-#[derive(Drop)]
+#[derive(Clone, Copy)]
 pub struct OpenedParts {
     pub command: Command,
     pub echo: usize,

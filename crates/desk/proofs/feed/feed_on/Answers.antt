@@ -1,0 +1,17 @@
+-- `feed_on` meets its contract: the search, then the ruling on the piece that it stops at.
+use mathlib.Core.Path.{refl}
+use native.Mathlib.Omega.{arith}
+use Rattle.desk.proofs.Feeding.{found_size, fed_refused, fed_ruled}
+use Rattle.desk.proofs.feed.feed_on.Goals as goal
+
+pub returns-then-text-lt256 : goal.returns-then-text-lt256
+returns-then-text-lt256 c = fed_refused _ _ _ c.if-text-lt256.true
+
+pub rule-ruled-requires : goal.rule-ruled-requires
+rule-ruled-requires c = let s = c.search-found in
+    let few = found_size _ _ s.result.piece s.new.line refl s.ensures.0 s.ensures.1 in
+    (omega (arith, few, s.ensures.1), omega (arith, few, c.if-text-lt256.false))
+
+pub returns : goal.returns
+returns c = let m = c in
+    fed_ruled _ _ _ m.search-found.ensures.0 m.if-text-lt256.false c.rule-ruled.ensures
