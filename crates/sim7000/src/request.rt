@@ -8,7 +8,7 @@ use at_command::cmgf::SmsMessageFormat;
 use at_command::request::{Encoded, Request};
 
 // The request that a number stands for.
-#[derive(Drop)]
+#[derive(Clone, Copy)]
 pub enum Wanted {
     Is(Request),
     Not,
