@@ -146,14 +146,14 @@ named line name t = go (ltb 2 (length (fields 44 (drop 7 line.now))))
     go true = in_line_lem line name t _ _ (field_at_lem line.now 2)
     go false = in_fallback_lem line name t _ _ (lent_at name.now)
 
-module _ (line formatFallback nameFallback t : Bor (List ℕ)) where
-  pub name_is : (name_handed line.now formatFallback.now nameFallback.now).refusal ≡ 0 → IsHanded line nameFallback (name_handed line.now formatFallback.now nameFallback.now) t
-      → t.now ≡ unquoted (field_or 2 (fields 44 (drop 7 line.now)) nameFallback.now)
+module _ (line format_fallback name_fallback t : Bor (List ℕ)) where
+  pub name_is : (name_handed line.now format_fallback.now name_fallback.now).refusal ≡ 0 → IsHanded line name_fallback (name_handed line.now format_fallback.now name_fallback.now) t
+      → t.now ≡ unquoted (field_or 2 (fields 44 (drop 7 line.now)) name_fallback.now)
   unfolding name_handed cops_text cops_fields
   name_is =
       let s = line.now in
       let fs = fields 44 (drop 7 s) in
-      let x = unquoted (field_or 2 fs nameFallback.now) in
-      let Q : Operator → Type 0 = λ (o : Operator). Hands line nameFallback t x (name_in o.name) in
-      where_0 (Hands line nameFallback t x) (λ (o : Operator). name_in o.name) (checked (cops_text formatFallback.now nameFallback.now) s)
-      (by_checked Q (cops_text formatFallback.now nameFallback.now) s (by_only Q _ _ (by_need Q _ _ (λ m. by_need Q _ _ (λ f. named line nameFallback t)))))
+      let x = unquoted (field_or 2 fs name_fallback.now) in
+      let Q : Operator → Type 0 = λ (o : Operator). Hands line name_fallback t x (name_in o.name) in
+      where_0 (Hands line name_fallback t x) (λ (o : Operator). name_in o.name) (checked (cops_text format_fallback.now name_fallback.now) s)
+      (by_checked Q (cops_text format_fallback.now name_fallback.now) s (by_only Q _ _ (by_need Q _ _ (λ m. by_need Q _ _ (λ f. named line name_fallback t)))))

@@ -44,9 +44,9 @@ use Rattle.at_command.specs.declared.cpsi.SystemMode.TheVariants as system_mode
 use Rattle.at_command.specs.declared.cpsi.OperationMode.{OperationMode}
 use Rattle.at_command.specs.declared.cpsi.OperationMode.TheVariants as operation_mode
 use Rattle.at_command.specs.declared.cops.OperatorMode.{OperatorMode}
-use Rattle.at_command.specs.declared.cops.OperatorMode.TheVariants as operatorMode
+use Rattle.at_command.specs.declared.cops.OperatorMode.TheVariants as OperatorModes
 use Rattle.at_command.specs.declared.cops.OperatorFormat.{OperatorFormat}
-use Rattle.at_command.specs.declared.cops.OperatorFormat.TheVariants as operatorFormat
+use Rattle.at_command.specs.declared.cops.OperatorFormat.TheVariants as OperatorFormats
 use Rattle.at_command.specs.declared.cntp.SyncNtpStatusCode.{SyncNtpStatusCode}
 use Rattle.at_command.specs.declared.cntp.SyncNtpStatusCode.TheVariants as ntp
 use Rattle.at_command.specs.declared.httptofs.StatusCode.{StatusCode}
@@ -56,7 +56,6 @@ use Rattle.at_command.specs.declared.generic_response.SimError.{SimError}
 use Rattle.at_command.specs.declared.generic_response.WritePrompt.{WritePrompt}
 use Rattle.at_command.specs.declared.generic_response.CloseOk.{CloseOk}
 use Rattle.at_command.specs.declared.ccid.Iccid.{Iccid}
-use Rattle.at_command.specs.declared.csq.SignalQuality.{SignalQuality}
 use Rattle.at_command.specs.declared.cpsi.SystemInfo.{SystemInfo}
 use Rattle.at_command.specs.declared.cops.OperatorInfo.{OperatorInfo}
 use Rattle.at_command.specs.declared.cntp.NetworkTime.{NetworkTime}
@@ -129,21 +128,21 @@ operation_mode_back operation_mode.Reset = refl
 operation_mode_back operation_mode.LowPower = refl
 
 abbrev operator_mode_of : ℕ → OperatorMode
-operator_mode_of n = cond (eqb n 0) operatorMode.Automatic (cond (eqb n 1) operatorMode.Manual (cond (eqb n 2) operatorMode.ManualDeregister (operatorMode.ManualAutomatic)))
+operator_mode_of n = cond (eqb n 0) OperatorModes.Automatic (cond (eqb n 1) OperatorModes.Manual (cond (eqb n 2) OperatorModes.ManualDeregister (OperatorModes.ManualAutomatic)))
 
 operator_mode_back : (m : OperatorMode) → operator_mode_of (Cops.mode_number m) ≡ m
-operator_mode_back operatorMode.Automatic = refl
-operator_mode_back operatorMode.Manual = refl
-operator_mode_back operatorMode.ManualDeregister = refl
-operator_mode_back operatorMode.ManualAutomatic = refl
+operator_mode_back OperatorModes.Automatic = refl
+operator_mode_back OperatorModes.Manual = refl
+operator_mode_back OperatorModes.ManualDeregister = refl
+operator_mode_back OperatorModes.ManualAutomatic = refl
 
 abbrev operator_format_of : ℕ → OperatorFormat
-operator_format_of n = cond (eqb n 0) operatorFormat.Long (cond (eqb n 1) operatorFormat.Short (operatorFormat.Numeric))
+operator_format_of n = cond (eqb n 0) OperatorFormats.Long (cond (eqb n 1) OperatorFormats.Short (OperatorFormats.Numeric))
 
 operator_format_back : (m : OperatorFormat) → operator_format_of (Cops.format_number m) ≡ m
-operator_format_back operatorFormat.Long = refl
-operator_format_back operatorFormat.Short = refl
-operator_format_back operatorFormat.Numeric = refl
+operator_format_back OperatorFormats.Long = refl
+operator_format_back OperatorFormats.Short = refl
+operator_format_back OperatorFormats.Numeric = refl
 
 abbrev ntp_of : ℕ → SyncNtpStatusCode
 ntp_of n = cond (eqb n 1) ntp.Success (cond (eqb n 61) ntp.NetworkError (cond (eqb n 62) ntp.DnsResolutionError (cond (eqb n 63) ntp.ConnectionError (cond (eqb n 64) ntp.ServiceResponseError (ntp.ServiceResponseTimeout)))))
@@ -300,8 +299,8 @@ operator_answer_back (OperatorInfoA.Value v) = ap OperatorInfoA.Value (operator_
 operator_answer_back (OperatorInfoA.Refused k) = refl
 
 -- one answer: cops::OperatorInfo::from_line
-pub one_operator : (line formatFallback nameFallback : List ℕ) (a b : OperatorInfoAnswer) → OperatorInfoKeeps line formatFallback nameFallback a → OperatorInfoKeeps line formatFallback nameFallback b → a ≡ b
-one_operator line formatFallback nameFallback a b = one_answer Cops.says (answer OperatorInfoA.Value OperatorInfoA.Refused operator_of) operator_answer_back a b _
+pub one_operator : (line format_fallback name_fallback : List ℕ) (a b : OperatorInfoAnswer) → OperatorInfoKeeps line format_fallback name_fallback a → OperatorInfoKeeps line format_fallback name_fallback b → a ≡ b
+one_operator line format_fallback name_fallback a b = one_answer Cops.says (answer OperatorInfoA.Value OperatorInfoA.Refused operator_of) operator_answer_back a b _
 
 time_answer_back : (r : NetworkTimeAnswer) → answer NetworkTimeA.Value NetworkTimeA.Refused time_of (Cntp.says r) ≡ r
 time_answer_back (NetworkTimeA.Value v) = ap NetworkTimeA.Value (time_back v)

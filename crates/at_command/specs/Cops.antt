@@ -39,10 +39,10 @@ pub record Operator : Type 0 where
 
 -- what stands behind a third comma is not read
 unfoldable pub cops_fields : List ℕ → List ℕ → List (List ℕ) → Reading Operator
-cops_fields formatFallback nameFallback fs =
+cops_fields format_fallback name_fallback fs =
     need (code_in operator_modes (nth 0 fs)) (λ m.
-    need (code_in operator_formats (field_or 1 fs formatFallback)) (λ f.
-    read (record { mode = m; format = f; name = name_of fs nameFallback })))
+    need (code_in operator_formats (field_or 1 fs format_fallback)) (λ f.
+    read (record { mode = m; format = f; name = name_of fs name_fallback })))
 
 unfoldable pub cops_text : List ℕ → List ℕ → List ℕ → Reading Operator
-cops_text formatFallback nameFallback s = only (starts_with (bytes "+COPS: ") s) (cops_fields formatFallback nameFallback (fields 44 (drop 7 s)))
+cops_text format_fallback name_fallback s = only (starts_with (bytes "+COPS: ") s) (cops_fields format_fallback name_fallback (fields 44 (drop 7 s)))

@@ -12,7 +12,7 @@ pub record Identity : Type 0 where
 
 -- the whole of a line of n bytes, as the one or the other
 abbrev pub whole : ℕ → Bool → Identity
-whole n isVersion = record { digits = record { start = 0; end = n }; is_version_number = isVersion }
+whole n is_version = record { digits = record { start = 0; end = n }; is_version_number = is_version }
 
 -- the digits of a double, added
 abbrev pub doubled : ℕ → ℕ

@@ -21,7 +21,7 @@ name_in (in_line p) = stands.in_line p
 name_in (in_fallback p) = stands.in_fallback p
 
 unfoldable pub name_handed : List ℕ → List ℕ → List ℕ → Handed
-name_handed s formatFallback nameFallback = handed (λ (o : Operator). name_in o.name) (checked (cops_text formatFallback nameFallback) s)
+name_handed s format_fallback name_fallback = handed (λ (o : Operator). name_in o.name) (checked (cops_text format_fallback name_fallback) s)
 
 -- the network's time, absent where the line has none
 unfoldable pub time_in : Option Span → Handed

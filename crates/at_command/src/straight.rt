@@ -5,15 +5,15 @@ ghost use Rattle.text.specs.Line.{refusal_by};
 ghost use Rattle.text.specs.Reading.{refusal_in};
 ghost use Rattle.at_command.specs.Response.{reading_at};
 ghost use Rattle.at_command.specs.says.Generic.{ok_says, error_says, prompt_says, close_says};
-ghost use Rattle.at_command.specs.says.Ccid.{says as iccidSays};
-ghost use Rattle.at_command.specs.says.Cmgf.{says as formatAnswerSays};
-ghost use Rattle.at_command.specs.says.Cmgr.{says as messageAnswerSays};
-ghost use Rattle.at_command.specs.says.Cntp.{says as timeAnswerSays};
-ghost use Rattle.at_command.specs.says.Cops.{says as operatorAnswerSays};
-ghost use Rattle.at_command.specs.says.Cpsi.{says as systemAnswerSays};
-ghost use Rattle.at_command.specs.says.Csq.{says as signalAnswerSays};
-ghost use Rattle.at_command.specs.says.Gsn.{says as imeiAnswerSays};
-ghost use Rattle.at_command.specs.says.Httptofs.{says as downloadAnswerSays};
+ghost use Rattle.at_command.specs.says.Ccid.{says as iccid_says};
+ghost use Rattle.at_command.specs.says.Cmgf.{says as format_answer_says};
+ghost use Rattle.at_command.specs.says.Cmgr.{says as message_answer_says};
+ghost use Rattle.at_command.specs.says.Cntp.{says as time_answer_says};
+ghost use Rattle.at_command.specs.says.Cops.{says as operator_answer_says};
+ghost use Rattle.at_command.specs.says.Cpsi.{says as system_answer_says};
+ghost use Rattle.at_command.specs.says.Csq.{says as signal_answer_says};
+ghost use Rattle.at_command.specs.says.Gsn.{says as imei_answer_says};
+ghost use Rattle.at_command.specs.says.Httptofs.{says as download_answer_says};
 ghost use Rattle.at_command.specs.says.Response.{says, ResponseAtKeeps};
 
 use crate::ccid::{Iccid, IccidAnswer};
@@ -170,7 +170,7 @@ fn close_refusal(said: CloseOkAnswer) -> u8
 }
 
 fn iccid_refusal(said: IccidAnswer) -> u8
-    ensures { result ≡ refusal_in (iccidSays said) }
+    ensures { result ≡ refusal_in (iccid_says said) }
 {
     match said {
         IccidAnswer::Value(_) => 0,
@@ -179,7 +179,7 @@ fn iccid_refusal(said: IccidAnswer) -> u8
 }
 
 fn signal_refusal(said: SignalQualityAnswer) -> u8
-    ensures { result ≡ refusal_in (signalAnswerSays said) }
+    ensures { result ≡ refusal_in (signal_answer_says said) }
 {
     match said {
         SignalQualityAnswer::Value(_) => 0,
@@ -188,7 +188,7 @@ fn signal_refusal(said: SignalQualityAnswer) -> u8
 }
 
 fn system_refusal(said: SystemInfoAnswer) -> u8
-    ensures { result ≡ refusal_in (systemAnswerSays said) }
+    ensures { result ≡ refusal_in (system_answer_says said) }
 {
     match said {
         SystemInfoAnswer::Value(_) => 0,
@@ -197,7 +197,7 @@ fn system_refusal(said: SystemInfoAnswer) -> u8
 }
 
 fn operator_refusal(said: OperatorInfoAnswer) -> u8
-    ensures { result ≡ refusal_in (operatorAnswerSays said) }
+    ensures { result ≡ refusal_in (operator_answer_says said) }
 {
     match said {
         OperatorInfoAnswer::Value(_) => 0,
@@ -206,7 +206,7 @@ fn operator_refusal(said: OperatorInfoAnswer) -> u8
 }
 
 fn time_refusal(said: NetworkTimeAnswer) -> u8
-    ensures { result ≡ refusal_in (timeAnswerSays said) }
+    ensures { result ≡ refusal_in (time_answer_says said) }
 {
     match said {
         NetworkTimeAnswer::Value(_) => 0,
@@ -215,7 +215,7 @@ fn time_refusal(said: NetworkTimeAnswer) -> u8
 }
 
 fn download_refusal(said: DownloadInfoAnswer) -> u8
-    ensures { result ≡ refusal_in (downloadAnswerSays said) }
+    ensures { result ≡ refusal_in (download_answer_says said) }
 {
     match said {
         DownloadInfoAnswer::Value(_) => 0,
@@ -224,7 +224,7 @@ fn download_refusal(said: DownloadInfoAnswer) -> u8
 }
 
 fn imei_refusal(said: ImeiAnswer) -> u8
-    ensures { result ≡ refusal_in (imeiAnswerSays said) }
+    ensures { result ≡ refusal_in (imei_answer_says said) }
 {
     match said {
         ImeiAnswer::Value(_) => 0,
@@ -233,7 +233,7 @@ fn imei_refusal(said: ImeiAnswer) -> u8
 }
 
 fn format_refusal(said: SmsMessageFormatAnswer) -> u8
-    ensures { result ≡ refusal_in (formatAnswerSays said) }
+    ensures { result ≡ refusal_in (format_answer_says said) }
 {
     match said {
         SmsMessageFormatAnswer::Value(_) => 0,
@@ -242,7 +242,7 @@ fn format_refusal(said: SmsMessageFormatAnswer) -> u8
 }
 
 fn message_refusal(said: SmsMessageAnswer) -> u8
-    ensures { result ≡ refusal_in (messageAnswerSays said) }
+    ensures { result ≡ refusal_in (message_answer_says said) }
 {
     match said {
         SmsMessageAnswer::Value(_) => 0,

@@ -2,7 +2,7 @@
 use Rattle.std.specs.Prelude.{ℕ, ◌+◌, ◌-◌, ◌≤◌, ◌<◌, ◌≡◌, Bool, true, false, List, [], ◌∷◌, ◌++◌, length, drop, get_or}
 use Rattle.std.proofs.Math.Option.{Option, map}
 use Rattle.text.specs.Reading.{Reading, read}
-use Rattle.desk.specs.Cut.{Piece, nothing, blank, overlong, line, bare, long as tooLong, cut_one}
+use Rattle.desk.specs.Cut.{Piece, nothing, blank, overlong, line, bare, long as too_long, cut_one}
 use Rattle.desk.specs.Machine.{Stop, feed, command_of, event_of}
 use Rattle.desk.specs.Ordinal.{numbered}
 use Rattle.desk.specs.Lines.{Line}
@@ -64,7 +64,7 @@ pub record Laid (bytes : List ℕ) (len : ℕ) (chunk : List ℕ) (at most n : �
 -- r says whether a line of len bytes is past its length with b
 pub record Past (len b : ℕ) (r : Bool) : Type 0 where
   pub few : r ≡ false → len ≤ 256
-  pub is : (h : List ℕ) → length h ≡ len → r ≡ tooLong (bare (h ++ b ∷ []))
+  pub is : (h : List ℕ) → length h ≡ len → r ≡ too_long (bare (h ++ b ∷ []))
 
 -- what a line is, and the command that is kept after it
 abbrev pub Judges : Kept → List ℕ → Kept → Event → Type 0

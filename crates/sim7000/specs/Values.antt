@@ -96,7 +96,7 @@ fix_values f =
 -- 0 not enabled, 1 no fix, 2 a fix
 abbrev pub report_values : Report → List ℕ
 report_values not_enabled = 0 ∷ []
-report_values (no_fix inView) = 1 ∷ there inView ∷ or_zero inView ∷ []
+report_values (no_fix in_view) = 1 ∷ there in_view ∷ or_zero in_view ∷ []
 report_values (fix f) = 2 ∷ fix_values f
 
 abbrev pub urc_values : Unsolicited → List ℕ

@@ -14,7 +14,7 @@ use Rattle.at_command.specs.Conditions.{conditions}
 use Rattle.at_command.specs.Kind.{Kind, kind_at}
 use Rattle.at_command.specs.Response.{Response, ok, error, prompt, close_ok, iccid, signal, system, operator, time, download, imei, format, message, readings, response_text, reading_at}
 use Rattle.at_command.specs.says.Response.{ResponseAtKeeps}
-use Rattle.at_command.specs.says.Response.{says as responseSays}
+use Rattle.at_command.specs.says.Response.{says as response_says}
 use Rattle.at_command.specs.declared.ResponseCode.{ResponseCode}
 use Rattle.at_command.specs.declared.ResponseCodeAnswer.{ResponseCodeAnswer}
 use Rattle.at_command.specs.declared.ResponseCodeAnswer.TheVariants as R
@@ -22,7 +22,7 @@ use Rattle.at_command.proofs.Conditions.{responses_asked}
 use Rattle.unsolicited.specs.Conditions.{urc_conditions}
 use Rattle.unsolicited.specs.Urc.{Unsolicited, gnss, registration, urc_readings, urc_text, urc_reading_at}
 use Rattle.unsolicited.specs.says.Urc.{UrcAtKeeps}
-use Rattle.unsolicited.specs.says.Urc.{says as urcAnswerSays}
+use Rattle.unsolicited.specs.says.Urc.{says as urc_answer_says}
 use Rattle.unsolicited.specs.declared.Urc.{Urc}
 use Rattle.unsolicited.specs.declared.UrcAnswer.{UrcAnswer}
 use Rattle.unsolicited.specs.declared.UrcAnswer.TheVariants as U
@@ -125,20 +125,20 @@ module _ (l : List ℕ) (row : ℕ) (p : Points all_conditions l row) where
   module _ (h : row < 13) (r : ResponseCodeAnswer) (k : ResponseAtKeeps row l r) where
     pub line_response : (v : ResponseCode) → r ≡ R.Value v → LineKeeps l (L.Response v)
     unfolding mapped line_said
-    line_response v e = ap (mapped response) (ap responseSays (sym e) ∙ k) ∙ sym (both_response h)
+    line_response v e = ap (mapped response) (ap response_says (sym e) ∙ k) ∙ sym (both_response h)
 
     pub line_not_response : (n : ℕ) → r ≡ R.Refused n → LineKeeps l (L.Refused n)
     unfolding mapped line_said
-    line_not_response n e = ap (mapped response) (ap responseSays (sym e) ∙ k) ∙ sym (both_response h)
+    line_not_response n e = ap (mapped response) (ap response_says (sym e) ∙ k) ∙ sym (both_response h)
 
   module _ (h : 13 ≤ row) (r : UrcAnswer) (k : UrcAtKeeps (row - 13) l r) where
     pub line_urc : (v : Urc) → r ≡ U.Value v → LineKeeps l (L.Unsolicited v)
     unfolding mapped line_said
-    line_urc v e = ap (mapped unsolicited) (ap urcAnswerSays (sym e) ∙ k) ∙ sym (both_urc h)
+    line_urc v e = ap (mapped unsolicited) (ap urc_answer_says (sym e) ∙ k) ∙ sym (both_urc h)
 
     pub line_not_urc : (n : ℕ) → r ≡ U.Refused n → LineKeeps l (L.Refused n)
     unfolding mapped line_said
-    line_not_urc n e = ap (mapped unsolicited) (ap urcAnswerSays (sym e) ∙ k) ∙ sym (both_urc h)
+    line_not_urc n e = ap (mapped unsolicited) (ap urc_answer_says (sym e) ∙ k) ∙ sym (both_urc h)
 
 -- ---- which reader takes the line
 

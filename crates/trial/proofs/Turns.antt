@@ -10,12 +10,12 @@ use Rattle.text.proofs.Readings.{first_each}
 use Rattle.at_command.specs.Response.{Response, readings, response_text}
 use Rattle.unsolicited.specs.Urc.{Unsolicited, urc_readings, urc_text, begins}
 use Rattle.at_command.specs.says.Response.{ResponseCodeKeeps}
-use Rattle.at_command.specs.says.Response.{says as responseSays}
+use Rattle.at_command.specs.says.Response.{says as response_says}
 use Rattle.at_command.specs.declared.ResponseCode.{ResponseCode}
 use Rattle.at_command.specs.declared.ResponseCodeAnswer.{ResponseCodeAnswer}
 use Rattle.at_command.specs.declared.ResponseCodeAnswer.TheVariants as R
 use Rattle.unsolicited.specs.says.Urc.{UrcKeeps}
-use Rattle.unsolicited.specs.says.Urc.{says as urcAnswerSays}
+use Rattle.unsolicited.specs.says.Urc.{says as urc_answer_says}
 use Rattle.unsolicited.specs.declared.Urc.{Urc}
 use Rattle.unsolicited.specs.declared.UrcAnswer.{UrcAnswer}
 use Rattle.unsolicited.specs.declared.UrcAnswer.TheVariants as U
@@ -83,16 +83,16 @@ module _ (l : List ℕ) where
     -- and by the cases of that answer
     pub line_urc : t ≡ true → (r : UrcAnswer) → UrcKeeps l r → (u : Urc) → r ≡ U.Value u → LineKeeps l (L.Unsolicited u)
     unfolding mapped
-    line_urc h r k u e = said_begun h (ap urcAnswerSays (sym e) ∙ k)
+    line_urc h r k u e = said_begun h (ap urc_answer_says (sym e) ∙ k)
 
     pub line_not_urc : t ≡ true → (r : UrcAnswer) → UrcKeeps l r → (n : ℕ) → r ≡ U.Refused n → LineKeeps l (L.Refused n)
     unfolding mapped
-    line_not_urc h r k n e = said_begun h (ap urcAnswerSays (sym e) ∙ k)
+    line_not_urc h r k n e = said_begun h (ap urc_answer_says (sym e) ∙ k)
 
     pub line_response : t ≡ false → (r : ResponseCodeAnswer) → ResponseCodeKeeps l r → (c : ResponseCode) → r ≡ R.Value c → LineKeeps l (L.Response c)
     unfolding mapped
-    line_response h r k c e = said_other h (ap responseSays (sym e) ∙ k)
+    line_response h r k c e = said_other h (ap response_says (sym e) ∙ k)
 
     pub line_not_response : t ≡ false → (r : ResponseCodeAnswer) → ResponseCodeKeeps l r → (n : ℕ) → r ≡ R.Refused n → LineKeeps l (L.Refused n)
     unfolding mapped
-    line_not_response h r k n e = said_other h (ap responseSays (sym e) ∙ k)
+    line_not_response h r k n e = said_other h (ap response_says (sym e) ∙ k)

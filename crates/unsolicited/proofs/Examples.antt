@@ -15,7 +15,7 @@ use Rattle.text.specs.Reading.{Reading, read, refused, only, either, need_else, 
 use Rattle.text.specs.Utf8.{char_size, behind, utf8}
 use Rattle.text.specs.Part.{part_of}
 use Rattle.numeral.specs.Numeral.{float_of, decimal_of, behind_sign}
-use Rattle.numeral.specs.Numeral.{unsigned as behindTheSign}
+use Rattle.numeral.specs.Numeral.{unsigned as behind_the_sign}
 use Rattle.unsolicited.specs.Date.{Date, is_fraction, figures, date_in, is_date, existing, date_of}
 use Rattle.unsolicited.specs.Calendar.{is_leap, days_in}
 use Rattle.unsolicited.specs.Gnss.{not_enabled, no_fix, fix, or_zero, float_or_zero, count_or_zero, fix_on, fix_of, ugnsinf_fields, ugnsinf_text}
@@ -50,7 +50,7 @@ pub reports :
     × Says (bytes "+UGNSINF: 1,0,20230229030405.000,x,,,,,,,,,,,7,,,,,,") (read (gnss (no_fix (some 7))))
     × Says (bytes "+UGNSINF: 1,0,,,,,,,,,,,,,-0,,,,,,") (read (gnss (no_fix none)))
     × Says (bytes "+UGNSINF: 0,1,20230229030405.000,,,,,,,,,,,,,,,,,,") (read (gnss not_enabled))
-unfolding creg_text cgreg_text cereg_text checked line_check utf8 behind char_size urc_text urc_readings first_of mapped only either need_else starts_with same unsigned magnitude digits_of digit_value value_of ugnsinf_text ugnsinf_fields fix_of fix_on float_or_zero count_or_zero or_zero date_of is_fraction figures date_in is_date existing is_leap days_in part_of float_of decimal_of behind_sign behindTheSign round
+unfolding creg_text cgreg_text cereg_text checked line_check utf8 behind char_size urc_text urc_readings first_of mapped only either need_else starts_with same unsigned magnitude digits_of digit_value value_of ugnsinf_text ugnsinf_fields fix_of fix_on float_or_zero count_or_zero or_zero date_of is_fraction figures date_in is_date existing is_leap days_in part_of float_of decimal_of behind_sign behind_the_sign round
 reports = (refl, refl, refl, refl, refl, refl, refl)
 
 -- document 02's CR 8: texts that are no date, however they fail, and some that are one

@@ -14,11 +14,11 @@ use Rattle.unsolicited.specs.Gnss as G
 use Rattle.unsolicited.specs.Registration.{Registration}
 use Rattle.unsolicited.specs.Urc as U
 use Rattle.unsolicited.specs.says.Gnss.{date_option_says, report_says, DateKeeps, GnssReportKeeps}
-use Rattle.unsolicited.specs.says.Gnss.{says as reportAnswerSays}
+use Rattle.unsolicited.specs.says.Gnss.{says as report_answer_says}
 use Rattle.unsolicited.specs.says.Registration.{status_number, registration_says, RegistrationKeeps}
-use Rattle.unsolicited.specs.says.Registration.{says as registrationAnswerSays}
+use Rattle.unsolicited.specs.says.Registration.{says as registration_answer_says}
 use Rattle.unsolicited.specs.says.Urc.{urc_says, UrcKeeps, UrcAtKeeps}
-use Rattle.unsolicited.specs.says.Urc.{says as urcAnswerSays}
+use Rattle.unsolicited.specs.says.Urc.{says as urc_answer_says}
 use Rattle.unsolicited.specs.declared.network_registration.RegistrationStatus.{RegistrationStatus}
 use Rattle.unsolicited.specs.declared.network_registration.RegistrationStatus.TheVariants.{NotRegistered, RegisteredHome, Searching, RegistrationDenied, Unknown, RegisteredRoaming}
 use Rattle.unsolicited.specs.declared.network_registration.NetworkRegistration.{NetworkRegistration}
@@ -55,13 +55,13 @@ network r = record { status = status r.status; lac = option IsU16 NotU16 (λ n. 
 back_network : (r : NetworkRegistration) → network (registration_says r) ≡ r
 back_network r = rw (back_status r.status, back_u16 r.lac, back_u32 r.ci)
 
-back_registration : (r : NetworkRegistrationAnswer) → answer N.Value N.Refused network (registrationAnswerSays r) ≡ r
+back_registration : (r : NetworkRegistrationAnswer) → answer N.Value N.Refused network (registration_answer_says r) ≡ r
 back_registration (N.Value r) = ap N.Value (back_network r)
 back_registration (N.Refused k) = refl
 
 -- one answer: creg::CReg::from_line, cgreg::CGReg::from_line, cereg::CEReg::from_line, network_registration::NetworkRegistration::from_line
 pub one_registration : (text : List ℕ → Reading Registration) (line : List ℕ) (a b : NetworkRegistrationAnswer) → RegistrationKeeps text line a → RegistrationKeeps text line b → a ≡ b
-one_registration text line a b = one_answer registrationAnswerSays (answer N.Value N.Refused network) back_registration a b (checked text line)
+one_registration text line a b = one_answer registration_answer_says (answer N.Value N.Refused network) back_registration a b (checked text line)
 
 -- dates
 abbrev date_time : Date → DateTime
@@ -104,13 +104,13 @@ back_report NotEnabled = refl
 back_report (NoFix n) = ap NoFix (back_u32 n)
 back_report (Fix f) = refl
 
-back_gnss : (r : GnssReportAnswer) → answer R.Value R.Refused report (reportAnswerSays r) ≡ r
+back_gnss : (r : GnssReportAnswer) → answer R.Value R.Refused report (report_answer_says r) ≡ r
 back_gnss (R.Value r) = ap R.Value (back_report r)
 back_gnss (R.Refused k) = refl
 
 -- one answer: ugnsinf::GnssReport::from_line
 pub one_report : (line : List ℕ) (a b : GnssReportAnswer) → GnssReportKeeps line a → GnssReportKeeps line b → a ≡ b
-one_report line a b = one_answer reportAnswerSays (answer R.Value R.Refused report) back_gnss a b (checked G.ugnsinf_text line)
+one_report line a b = one_answer report_answer_says (answer R.Value R.Refused report) back_gnss a b (checked G.ugnsinf_text line)
 
 -- the trial
 abbrev pub urc : U.Unsolicited → Urc
@@ -121,14 +121,14 @@ pub back_urc : (u : Urc) → urc (urc_says u) ≡ u
 back_urc (C.GnssReport r) = ap C.GnssReport (back_report r)
 back_urc (C.NetworkRegistration r) = ap C.NetworkRegistration (back_network r)
 
-back_trial : (r : UrcAnswer) → answer A.Value A.Refused urc (urcAnswerSays r) ≡ r
+back_trial : (r : UrcAnswer) → answer A.Value A.Refused urc (urc_answer_says r) ≡ r
 back_trial (A.Value u) = ap A.Value (back_urc u)
 back_trial (A.Refused k) = refl
 
 -- one answer: Urc::from_line
 pub one_urc : (line : List ℕ) (a b : UrcAnswer) → UrcKeeps line a → UrcKeeps line b → a ≡ b
-one_urc line a b = one_answer urcAnswerSays (answer A.Value A.Refused urc) back_trial a b (checked U.urc_text line)
+one_urc line a b = one_answer urc_answer_says (answer A.Value A.Refused urc) back_trial a b (checked U.urc_text line)
 
 -- one answer: straight::read_at
 pub one_urc_at : (place : ℕ) (line : List ℕ) (a b : UrcAnswer) → UrcAtKeeps place line a → UrcAtKeeps place line b → a ≡ b
-one_urc_at place line a b = one_answer urcAnswerSays (answer A.Value A.Refused urc) back_trial a b (checked (U.urc_reading_at place) line)
+one_urc_at place line a b = one_answer urc_answer_says (answer A.Value A.Refused urc) back_trial a b (checked (U.urc_reading_at place) line)

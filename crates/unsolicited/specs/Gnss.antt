@@ -52,7 +52,7 @@ fix_on date fs =
     need (float_or_zero (nth 10 fs)) (λ hdop.
     need (float_or_zero (nth 11 fs)) (λ pdop.
     need (float_or_zero (nth 12 fs)) (λ vdop.
-    need (count_or_zero (nth 14 fs)) (λ inView.
+    need (count_or_zero (nth 14 fs)) (λ in_view.
     need (count_or_zero (nth 15 fs)) (λ gnss.
     need (count_or_zero (nth 16 fs)) (λ glonass.
     need (count_or_zero (nth 18 fs)) (λ ratio.
@@ -66,7 +66,7 @@ fix_on date fs =
       vdop = vdop;
       speed_over_ground = speed;
       course_over_ground = course;
-      sat_gps_in_view = inView;
+      sat_gps_in_view = in_view;
       sat_gnss_used = gnss;
       sat_glonass_used = glonass;
       signal_noise_ratio = ratio;

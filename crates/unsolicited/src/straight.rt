@@ -4,8 +4,8 @@ ghost use Rattle.text.specs.Gives.{Gives};
 ghost use Rattle.text.specs.Line.{refusal_by};
 ghost use Rattle.text.specs.Reading.{mapped, refusal_in};
 ghost use Rattle.unsolicited.specs.Urc.{gnss, registration, urc_reading_at};
-ghost use Rattle.unsolicited.specs.says.Gnss.{says as reportAnswerSays};
-ghost use Rattle.unsolicited.specs.says.Registration.{says as registrationAnswerSays};
+ghost use Rattle.unsolicited.specs.says.Gnss.{says as report_answer_says};
+ghost use Rattle.unsolicited.specs.says.Registration.{says as registration_answer_says};
 ghost use Rattle.unsolicited.specs.says.Urc.{says, UrcAtKeeps};
 
 use crate::cereg::CEReg;
@@ -18,7 +18,7 @@ use text::line;
 
 // Two answers, each among the unsolicited.
 fn of_report(said: GnssReportAnswer) -> UrcAnswer
-    ensures { says result ≡ mapped gnss (reportAnswerSays said) }
+    ensures { says result ≡ mapped gnss (report_answer_says said) }
 {
     match said {
         GnssReportAnswer::Value(v) => UrcAnswer::Value(Urc::GnssReport(v)),
@@ -27,7 +27,7 @@ fn of_report(said: GnssReportAnswer) -> UrcAnswer
 }
 
 fn of_registration(said: NetworkRegistrationAnswer) -> UrcAnswer
-    ensures { says result ≡ mapped registration (registrationAnswerSays said) }
+    ensures { says result ≡ mapped registration (registration_answer_says said) }
 {
     match said {
         NetworkRegistrationAnswer::Value(v) => UrcAnswer::Value(Urc::NetworkRegistration(v)),

@@ -51,4 +51,4 @@ says (Refused k) = refused k
 
 -- the contract of its reader
 abbrev pub OperatorInfoKeeps : List ℕ → List ℕ → List ℕ → OperatorInfoAnswer → Type 0
-OperatorInfoKeeps line formatFallback nameFallback r = says r ≡ checked (cops_text formatFallback nameFallback) line
+OperatorInfoKeeps line format_fallback name_fallback r = says r ≡ checked (cops_text format_fallback name_fallback) line

@@ -7,12 +7,12 @@ use Rattle.at_command.specs.says.Ccid.{card_says}
 use Rattle.at_command.specs.says.Cmgf.{format_number}
 use Rattle.at_command.specs.says.Cmgr.{message_says}
 use Rattle.at_command.specs.says.Cntp.{info_says as time_says}
-use Rattle.at_command.specs.says.Cops.{info_says as operatorSays}
+use Rattle.at_command.specs.says.Cops.{info_says as operator_says}
 use Rattle.at_command.specs.says.Cpsi.{info_says as system_says}
 use Rattle.at_command.specs.says.Csq.{signal_says}
 use Rattle.at_command.specs.says.Generic.{ok_mark, fault_says, prompt_mark, connection_says}
 use Rattle.at_command.specs.says.Gsn.{imei_says}
-use Rattle.at_command.specs.says.Httptofs.{info_says as downloadSays}
+use Rattle.at_command.specs.says.Httptofs.{info_says as download_says}
 use Rattle.at_command.specs.says.Request.{kind_says}
 use Rattle.at_command.specs.declared.request.ResponseKind.{ResponseKind}
 use Rattle.at_command.specs.declared.ResponseCode.{ResponseCode}
@@ -28,9 +28,9 @@ code_says (R.CloseOk v) = close_ok (connection_says v)
 code_says (R.Iccid v) = iccid (card_says v)
 code_says (R.SignalQuality v) = signal (signal_says v)
 code_says (R.SystemInfo v) = system (system_says v)
-code_says (R.OperatorInfo v) = operator (operatorSays v)
+code_says (R.OperatorInfo v) = operator (operator_says v)
 code_says (R.NetworkTime v) = time (time_says v)
-code_says (R.DownloadInfo v) = download (downloadSays v)
+code_says (R.DownloadInfo v) = download (download_says v)
 code_says (R.Imei v) = imei (imei_says v)
 code_says (R.SmsMessageFormat v) = format (format_number v)
 code_says (R.SmsMessage v) = message (message_says v)

@@ -1,4 +1,3 @@
-use Prim.Native.Nat.{◌-◌}
 use borrow.Author.Rules.{rules}
 use Rattle.numeral.proofs.Counting.{counted_none, digits_fit, points_fit, counted_more, sum_fits, counts_told}
 use Rattle.numeral.proofs.is_counted.Goals as goal

@@ -12,6 +12,7 @@ left n d = n * 4096 % d * 2048
 
 abbrev quotient : ℕ → ℕ → ℕ
 quotient n d = n * 4096 / d * 2048 + left n d / d
+
 module _ (n d : ℕ) (h : (d ≤ n) × (n < 2 * d) × (d < 2 ^ 50)) where
   positive : 0 < d
   positive = omega arith

@@ -2,7 +2,7 @@
 use Rattle.std.specs.Prelude.{◌≡◌, List, [], ◌∷◌}
 use Rattle.text.specs.Reading.{read}
 use Rattle.numeral.specs.says.Numeral.{NumeralKeeps}
-use Rattle.numeral.specs.says.Numeral.{says as numeralSays}
+use Rattle.numeral.specs.says.Numeral.{says as numeral_says}
 use Rattle.numeral.specs.declared.Numeral.{Numeral}
 use Rattle.trial.specs.Fourteen.{Row, says, is}
 use Rattle.trial.specs.says.Line.{line_says, LineKeeps}
@@ -10,7 +10,7 @@ use Rattle.trial.specs.declared.Line.{Line}
 
 abbrev pub Holds : Row → Type 0
 Holds (says line said) = (r : Line) → LineKeeps line r → line_says r ≡ said
-Holds (is numeral x) = (r : Numeral) → NumeralKeeps numeral r → numeralSays r ≡ read x
+Holds (is numeral x) = (r : Numeral) → NumeralKeeps numeral r → numeral_says r ≡ read x
 
 abbrev pub All : List Row → Type 0
 All [] = Unit {0}

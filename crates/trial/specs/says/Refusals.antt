@@ -3,7 +3,7 @@ use Rattle.std.specs.Prelude.{ℕ, ◌↔◌, ◌≡◌, List}
 use Rattle.text.specs.Line.{line_check}
 use Rattle.text.specs.Reading.{read, refused}
 use Rattle.at_command.specs.says.Response.{ResponseCodeKeeps}
-use Rattle.at_command.specs.says.Response.{says as responseSays}
+use Rattle.at_command.specs.says.Response.{says as response_says}
 use Rattle.at_command.specs.declared.ResponseCodeAnswer.{ResponseCodeAnswer}
 use Rattle.unsolicited.specs.Gnss.{Fix, fix}
 use Rattle.unsolicited.specs.Undated.{field_of, Undated}
@@ -25,4 +25,4 @@ pub record DatesSaid (l : List ℕ) : Type 0 where
   pub dated : (r : Line) → LineKeeps l r → (f : Fix) → line_says r ≡ read (unsolicited (gnss (fix f))) → Says (field_of 2 l) f.date_time
   pub line : (r : Line) → LineKeeps l r → (line_says r ≡ refused 13) ↔ ((line_check l ≡ 0) × Undated l)
   pub sort : (r : Sort) → SortKeeps l r → (sort_says r ≡ refused 13) ↔ ((line_check l ≡ 0) × Undated l)
-  pub response : line_check l ≡ 0 → Undated l → (r : ResponseCodeAnswer) → ResponseCodeKeeps l r → responseSays r ≡ refused 3
+  pub response : line_check l ≡ 0 → Undated l → (r : ResponseCodeAnswer) → ResponseCodeKeeps l r → response_says r ≡ refused 3

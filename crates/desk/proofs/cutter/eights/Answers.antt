@@ -1,4 +1,3 @@
-use Prim.Native.Nat.{◌-◌}
 use native.Mathlib.Omega.{arith}
 use Rattle.desk.proofs.Searching.{laid_none, laid_room, laid_join}
 use Rattle.desk.proofs.cutter.eights.Goals as goal

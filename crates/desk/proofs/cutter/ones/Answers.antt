@@ -1,4 +1,3 @@
-use Prim.Native.Nat.{◌-◌}
 use Rattle.desk.proofs.Searching.{laid_none, laid_byte}
 use Rattle.desk.proofs.cutter.ones.Goals as goal
 

@@ -1,4 +1,4 @@
-use Rattle.std.proofs.Common.{◌-◌, rules}
+use Rattle.std.proofs.Common.{rules}
 use Rattle.text.proofs.Finding.{told_out, told_more, within_end}
 use Rattle.text.proofs.bytes.all_digits.Goals as goal
 

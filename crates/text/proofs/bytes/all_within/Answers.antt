@@ -1,4 +1,4 @@
-use Rattle.std.proofs.Common.{◌-◌, rules}
+use Rattle.std.proofs.Common.{rules}
 use Rattle.text.proofs.Finding.{within_low, within_high, within_more, within_end}
 use Rattle.text.proofs.bytes.all_within.Goals as goal
 

@@ -1,4 +1,4 @@
-use Rattle.std.proofs.Common.{◌-◌, rules}
+use Rattle.std.proofs.Common.{rules}
 use Rattle.text.proofs.Finding.{count_fits, count_few, count_more, count_end}
 use Rattle.text.proofs.bytes.count_byte.Goals as goal
 

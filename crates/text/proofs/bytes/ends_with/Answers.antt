@@ -1,4 +1,4 @@
-use Rattle.std.proofs.Common.{◌-◌, rules}
+use Rattle.std.proofs.Common.{rules}
 use Rattle.text.proofs.Finding.{ends_short, ends_is}
 use Rattle.text.proofs.bytes.ends_with.Goals as goal
 

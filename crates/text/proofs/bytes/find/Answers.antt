@@ -1,4 +1,4 @@
-use Rattle.std.proofs.Common.{◌-◌, rules}
+use Rattle.std.proofs.Common.{rules}
 use Rattle.text.proofs.Finding.{find_hit, find_miss, find_end}
 use Rattle.text.proofs.bytes.find.Goals as goal
 

@@ -1,4 +1,4 @@
-use Rattle.std.proofs.Common.{◌-◌, rules}
+use Rattle.std.proofs.Common.{rules}
 use Rattle.text.proofs.Finding.{same_length, other_length}
 use Rattle.text.proofs.bytes.is_text.Goals as goal
 

@@ -1,4 +1,4 @@
-use Rattle.std.proofs.Common.{◌-◌, rules}
+use Rattle.std.proofs.Common.{rules}
 use Rattle.text.proofs.Finding.{starts_room, starts_other, starts_same, starts_end}
 use Rattle.text.proofs.Finding.{starts_room, starts_begin, starts_other, starts_same, starts_end}
 use Rattle.text.proofs.bytes.stands_at.Goals as goal

@@ -1,4 +1,4 @@
-use Rattle.std.proofs.Common.{◌-◌, zero-add, rules}
+use Rattle.std.proofs.Common.{zero-add, rules}
 use Rattle.text.proofs.Codes.{place_here, place_none, place_on}
 use Rattle.text.proofs.code.place_in.Goals as goal
 

@@ -1,4 +1,4 @@
-use Rattle.std.proofs.Common.{◌-◌, refl, arith, rules}
+use Rattle.std.proofs.Common.{refl, arith, rules}
 use lib.Seq.{paste-zero}
 use Rattle.text.proofs.Copying.{least_le, lay_none, lay_next, lay_end}
 use Rattle.text.proofs.copy.lay.Goals as goal

@@ -1,4 +1,4 @@
-use Rattle.std.proofs.Common.{◌-◌, arith, rules}
+use Rattle.std.proofs.Common.{arith, rules}
 use Rattle.text.proofs.Parts.{count_le}
 use Rattle.text.proofs.Fields.{count_fields}
 use Rattle.text.proofs.field.field_count.Goals as goal

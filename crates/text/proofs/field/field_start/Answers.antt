@@ -1,4 +1,4 @@
-use Rattle.std.proofs.Common.{◌-◌, rules}
+use Rattle.std.proofs.Common.{rules}
 use Rattle.text.proofs.Fields.{place_begin, place_past, place_more, place_done}
 use Rattle.text.proofs.field.field_start.Goals as goal
 

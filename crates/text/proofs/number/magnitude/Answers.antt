@@ -1,4 +1,4 @@
-use Rattle.std.proofs.Common.{◌-◌, arith, Fits-le, rules}
+use Rattle.std.proofs.Common.{arith, Fits-le, rules}
 use Rattle.text.proofs.Digits.{digits_none, digits_start, digits_bad, digits_over, digits_over', digits_turn, digits_end, times_le, next_le}
 use Rattle.text.proofs.number.magnitude.Goals as goal
 

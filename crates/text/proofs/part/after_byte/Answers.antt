@@ -1,4 +1,4 @@
-use Rattle.std.proofs.Common.{◌-◌, arith, rules}
+use Rattle.std.proofs.Common.{arith, rules}
 use Rattle.text.proofs.Parts.{index_le}
 use Rattle.text.proofs.Parts.{index_le, after_part}
 use Rattle.text.proofs.part.after_byte.Goals as goal

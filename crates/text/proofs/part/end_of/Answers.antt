@@ -1,4 +1,4 @@
-use Rattle.std.proofs.Common.{◌-◌, rules}
+use Rattle.std.proofs.Common.{rules}
 use Rattle.text.proofs.Trims.{end_begin, end_stop, end_first, end_second, end_none}
 use Rattle.text.proofs.part.end_of.Goals as goal
 

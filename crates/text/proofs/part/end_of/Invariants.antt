@@ -1,5 +1,5 @@
 -- The loop's invariant: what goes at the end of the line goes at the end of its first `e` bytes. Assumes nothing.
-use Rattle.std.proofs.Common.{◌≡◌, ◌-◌, ◌≤◌, [], ◌∷◌, length, take}
+use Rattle.std.proofs.Common.{◌≡◌, ◌≤◌, [], ◌∷◌, length, take}
 use Rattle.text.specs.Part.{trim_end}
 use Rattle.text.proofs.part.end_of.Given as goal
 

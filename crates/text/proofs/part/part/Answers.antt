@@ -1,5 +1,5 @@
 -- Each of the four answers has the bytes asked for, at the place asked for. Assumes nothing.
-use Rattle.std.proofs.Common.{◌-◌, length, refl, rules}
+use Rattle.std.proofs.Common.{length, refl, rules}
 use Rattle.text.specs.Part.{part_of}
 use Rattle.text.proofs.Parts.{part_none, part_long, part_back, place_past, place_in}
 use Rattle.text.proofs.part.part.Goals as goal

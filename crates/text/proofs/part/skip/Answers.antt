@@ -1,4 +1,4 @@
-use Rattle.std.proofs.Common.{◌-◌, rules}
+use Rattle.std.proofs.Common.{rules}
 use Rattle.text.proofs.Parts.{to_end}
 use Rattle.text.proofs.part.skip.Goals as goal
 

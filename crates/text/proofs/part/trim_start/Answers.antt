@@ -1,4 +1,4 @@
-use Rattle.std.proofs.Common.{◌-◌, rules}
+use Rattle.std.proofs.Common.{rules}
 use Rattle.text.proofs.Trims.{start_stop, start_more, start_none}
 use Rattle.text.proofs.part.trim_start.Goals as goal
 

@@ -1,5 +1,3 @@
-use Rattle.std.proofs.Common.{ap}
-use Rattle.text.specs.Reader.{Starts}
 use Rattle.text.proofs.ReaderStarts.{from_start}
 use Rattle.text.proofs.reader.field_starts.Goals as goal
 

@@ -1,7 +1,7 @@
-use Rattle.std.proofs.Common.{◌≡◌, ◌+◌, ◌≤◌, ℕ, Bool, true, List, Bor, refl, sym, ap, ◌∙◌, subst, add-one, zero-le, arith, le_antisymm}
+use Rattle.std.proofs.Common.{◌≡◌, ◌≤◌, ℕ, true, List, Bor, refl, sym, ap, ◌∙◌, subst, add-one, arith, le_antisymm}
 use Rattle.text.specs.Part.{IsPart}
 use Rattle.text.specs.Field.{fields, nth, place_of}
-use Rattle.text.specs.Reader.{field_at, next_at, ended_at, stands_from, stands_at}
+use Rattle.text.specs.Reader.{field_at, ended_at, stands_from, stands_at}
 use Rattle.text.proofs.ReaderPlaces.{stands_part, stands_past}
 use Rattle.text.proofs.reader.nth_field.Goals as goal
 use Rattle.text.proofs.reader.nth_field.Goals.{else-loop-k-test, then-loop-k-test+then-ended}
@@ -35,7 +35,7 @@ returns c =
     let place : c.loop-k.r.at ≡ stands_at c.loop-k.k c.args.line.now = i.place ∙ ap (λ (x : Bor (List ℕ)). stands_at c.loop-k.k x.now) c.new-r.ensures.0 in
     at_nth c.args.n _ _ _ _ line
     (elim c.loop-k-test.branch [
-      else-loop-k-test w ↦ place ∙ ap (λ (k : ℕ). stands_at k c.args.line.now) (le_antisymm i.most w.loop-k-test.false)
-    | then-loop-k-test+then-ended w ↦ stands c.args.n c.loop-k.k _ _ _ line place i.most (sym w.ended.ensures ∙ w.if-ended.true)
+      | else-loop-k-test w ↦ place ∙ ap (λ (k : ℕ). stands_at k c.args.line.now) (le_antisymm i.most w.loop-k-test.false)
+      | then-loop-k-test+then-ended w ↦ stands c.args.n c.loop-k.k _ _ _ line place i.most (sym w.ended.ensures ∙ w.if-ended.true)
     ])
     c.field.ensures

@@ -1,4 +1,3 @@
-use Rattle.std.proofs.Common.{◌-◌}
 use Rattle.text.proofs.ReaderStarts.{found_none, fits_more, found_more, found_full, found_last}
 use Rattle.text.proofs.reader.starts_at.Goals as goal
 

@@ -1,4 +1,4 @@
-use Rattle.std.proofs.Common.{◌-◌, get_or, rules}
+use Rattle.std.proofs.Common.{get_or, rules}
 use Rattle.text.proofs.Below.{tabled, entry}
 use Rattle.text.proofs.Utf8Walk.{row, at_begin, small, letter, letter_least, letter_few, letter_fits, letter_offset, at_more, at_last}
 use Rattle.text.proofs.utf8.all_chars.Goals as goal

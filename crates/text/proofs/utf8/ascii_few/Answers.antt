@@ -1,4 +1,4 @@
-use Rattle.std.proofs.Common.{◌-◌, rules}
+use Rattle.std.proofs.Common.{rules}
 use Rattle.text.proofs.Utf8Laws.{utf8_ascii}
 use Rattle.text.proofs.utf8.ascii_few.Goals as goal
 

@@ -9,13 +9,13 @@ pub returns-in-Value : goal.returns-in-Value
 returns-in-Value c = first_is 3 _ _ _ (mapped_read gnss _ _ c.in-Value.ensures) ∙ urc_nested _
 
 pub returns-in-Value-from_checked : goal.returns-in-Value-from_checked
-returns-in-Value-from_checked c = 
+returns-in-Value-from_checked c =
     first_else 3 _ _ _ _ _ (mapped_refused gnss _ _ c.in-Refused.ensures) refl
     (first_is _ _ _ _ (mapped_read registration _ _ c.in-Value-from_checked.ensures))
     ∙ urc_nested _
 
 pub returns-in-Refused-from_checked : goal.returns-in-Refused-from_checked
-returns-in-Refused-from_checked c = 
+returns-in-Refused-from_checked c =
     first_else 3 _ _ _ _ _ (mapped_refused gnss _ _ c.in-Refused.ensures) refl
     (first_else _ _ _ _ _ _ (mapped_refused registration _ _ c.in-Refused-from_checked.ensures) c.worse_of.ensures (first_none _))
     ∙ urc_nested _
