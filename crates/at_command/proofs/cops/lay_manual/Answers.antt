@@ -4,7 +4,4 @@ use Rattle.at_command.proofs.cops.lay_manual.Goals as goal
 
 pub returns : goal.returns
 returns c =
-    let s = c in
-    let t = s in
-    let u = t in
-    lay_on (lay_on (lay_on u.lay-at.ensures t.lay-at-2.ensures) s.lay_byte-at.ensures) c.lay_byte.ensures
+    lay_on (lay_on (lay_on c.lay-at.ensures c.lay-at-2.ensures) c.lay_byte-at.ensures) c.lay_byte.ensures

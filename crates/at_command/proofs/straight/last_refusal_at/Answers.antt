@@ -16,19 +16,19 @@ use Rattle.at_command.proofs.straight.last_refusal_at.Goals as goal
 
 pub returns-in-9 : goal.returns-in-9
 unfolding reading_at readings
-returns-in-9 c = let m = c in forgets Httptofs.says download httptofs_text 9 (λ l. refl) _ _ c.from_checked.result _ m.in-9.is c.from_checked.ensures c.download_refusal.ensures
+returns-in-9 c = forgets Httptofs.says download httptofs_text 9 (λ l. refl) _ _ c.from_checked.result _ c.in-9.is c.from_checked.ensures c.download_refusal.ensures
 
 pub returns-in-10 : goal.returns-in-10
 unfolding reading_at readings
-returns-in-10 c = let m = c in forgets Gsn.says imei imei_text 10 (λ l. refl) _ _ c.from_checked-in-10.result _ m.in-10.is c.from_checked-in-10.ensures c.imei_refusal.ensures
+returns-in-10 c = forgets Gsn.says imei imei_text 10 (λ l. refl) _ _ c.from_checked-in-10.result _ c.in-10.is c.from_checked-in-10.ensures c.imei_refusal.ensures
 
 pub returns-in-11 : goal.returns-in-11
 unfolding reading_at readings
-returns-in-11 c = let m = c in forgets Cmgf.says format cmgf_text 11 (λ l. refl) _ _ c.from_checked-in-11.result _ m.in-11.is c.from_checked-in-11.ensures c.format_refusal.ensures
+returns-in-11 c = forgets Cmgf.says format cmgf_text 11 (λ l. refl) _ _ c.from_checked-in-11.result _ c.in-11.is c.from_checked-in-11.ensures c.format_refusal.ensures
 
 pub returns-in-12 : goal.returns-in-12
 unfolding reading_at readings
-returns-in-12 c = let m = c in forgets Cmgr.says message cmgr_text 12 (λ l. refl) _ _ c.from_checked-in-12.result _ m.in-12.is c.from_checked-in-12.ensures c.message_refusal.ensures
+returns-in-12 c = forgets Cmgr.says message cmgr_text 12 (λ l. refl) _ _ c.from_checked-in-12.result _ c.in-12.is c.from_checked-in-12.ensures c.message_refusal.ensures
 
 pub returns-in_default : goal.returns-in_default
 unfolding reading_at readings

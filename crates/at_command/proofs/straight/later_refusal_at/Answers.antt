@@ -18,23 +18,23 @@ use Rattle.at_command.proofs.straight.later_refusal_at.Goals as goal
 
 pub returns-in-4 : goal.returns-in-4
 unfolding reading_at readings
-returns-in-4 c = let m = c in forgets Ccid.says iccid iccid_text 4 (λ l. refl) _ _ c.from_checked.result _ m.in-4.is c.from_checked.ensures c.iccid_refusal.ensures
+returns-in-4 c = forgets Ccid.says iccid iccid_text 4 (λ l. refl) _ _ c.from_checked.result _ c.in-4.is c.from_checked.ensures c.iccid_refusal.ensures
 
 pub returns-in-5 : goal.returns-in-5
 unfolding reading_at readings
-returns-in-5 c = let m = c in forgets Csq.says signal csq_text 5 (λ l. refl) _ _ c.from_checked-in-5.result _ m.in-5.is c.from_checked-in-5.ensures c.signal_refusal.ensures
+returns-in-5 c = forgets Csq.says signal csq_text 5 (λ l. refl) _ _ c.from_checked-in-5.result _ c.in-5.is c.from_checked-in-5.ensures c.signal_refusal.ensures
 
 pub returns-in-6 : goal.returns-in-6
 unfolding reading_at readings
-returns-in-6 c = let m = c in forgets Cpsi.says system cpsi_text 6 (λ l. refl) _ _ c.from_checked-in-6.result _ m.in-6.is c.from_checked-in-6.ensures c.system_refusal.ensures
+returns-in-6 c = forgets Cpsi.says system cpsi_text 6 (λ l. refl) _ _ c.from_checked-in-6.result _ c.in-6.is c.from_checked-in-6.ensures c.system_refusal.ensures
 
 pub returns-in-7 : goal.returns-in-7
 unfolding reading_at readings
-returns-in-7 c = let m = c in forgets Cops.says operator (cops_text (bytes "0") (bytes "")) 7 (λ l. refl) _ _ c.from_checked-in-7.result _ m.in-7.is c.from_checked-in-7.ensures c.operator_refusal.ensures
+returns-in-7 c = forgets Cops.says operator (cops_text (bytes "0") (bytes "")) 7 (λ l. refl) _ _ c.from_checked-in-7.result _ c.in-7.is c.from_checked-in-7.ensures c.operator_refusal.ensures
 
 pub returns-in-8 : goal.returns-in-8
 unfolding reading_at readings
-returns-in-8 c = let m = c in forgets Cntp.says time cntp_text 8 (λ l. refl) _ _ c.from_checked-in-8.result _ m.in-8.is c.from_checked-in-8.ensures c.time_refusal.ensures
+returns-in-8 c = forgets Cntp.says time cntp_text 8 (λ l. refl) _ _ c.from_checked-in-8.result _ c.in-8.is c.from_checked-in-8.ensures c.time_refusal.ensures
 
 pub returns-in_default : goal.returns-in_default
 unfolding reading_at readings

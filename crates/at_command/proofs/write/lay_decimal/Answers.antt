@@ -7,7 +7,7 @@ use Rattle.at_command.proofs.Laying.{lay_as}
 use Rattle.at_command.proofs.write.lay_decimal.Goals as goal
 
 pub lay-requires : goal.lay-requires
-lay-requires c = let s = c in omega (arith, ap length (last_part _ _ _ s.five_digits-digits.ensures s.decimal_size-from.ensures))
+lay-requires c = omega (arith, ap length (last_part _ _ _ c.five_digits-digits.ensures c.decimal_size-from.ensures))
 
 pub returns : goal.returns
-returns c = let s = c in lay_as _ _ _ _ _ _ _ (last_part _ _ _ s.five_digits-digits.ensures s.decimal_size-from.ensures) refl c.lay.ensures
+returns c = lay_as _ _ _ _ _ _ _ (last_part _ _ _ c.five_digits-digits.ensures c.decimal_size-from.ensures) refl c.lay.ensures

@@ -8,9 +8,8 @@ returns-then-ends_in_eight c = laid_none c.requires
 
 pub returns : goal.returns
 returns c =
-    let f = c in
-    let r = f.requires in
-    let k = f.ends_in_eight.ensures f.if-ends_in_eight.false in
+    let r = c.requires in
+    let k = c.ends_in_eight.ensures c.if-ends_in_eight.false in
     let one = laid_first r k (omega arith) in
     let four = laid_next r k 3 (omega arith) (laid_next r k 2 (omega arith) (laid_next r k 1 (omega arith) one)) in
     let seven = laid_next r k 6 (omega arith) (laid_next r k 5 (omega arith) (laid_next r k 4 (omega arith) four)) in

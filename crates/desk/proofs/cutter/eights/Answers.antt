@@ -9,10 +9,10 @@ pub eight-k-requires : goal.eight-k-requires
 eight-k-requires c = laid_room c.requires c.loop-n.invariant (omega arith)
 
 pub returns-then-k-lt8 : goal.returns-then-k-lt8
-returns-then-k-lt8 c = let f = c in laid_join f.requires f.loop-n.invariant (omega arith) c.eight-k.ensures
+returns-then-k-lt8 c = laid_join c.requires c.loop-n.invariant (omega arith) c.eight-k.ensures
 
 pub loop-n-preserved : goal.loop-n-preserved
-loop-n-preserved c = let f = c in laid_join f.requires f.loop-n.invariant (omega arith) c.eight-k.ensures
+loop-n-preserved c = laid_join c.requires c.loop-n.invariant (omega arith) c.eight-k.ensures
 
 pub returns : goal.returns
 returns c = c.loop-n.invariant

@@ -14,9 +14,7 @@ returns-then-may_prompt c = fill_none _ _ _ _
 
 pub run-requires : goal.run-requires
 run-requires c =
-    let f = c in
-    let g = f in
-    fill_room g.requires g.if-len-gt255.false g.if-at-chunk.false (least_le _ _ _ c.least-most.ensures) (f.may_prompt.ensures c.if-may_prompt.false)
+    fill_room c.requires c.if-len-gt255.false c.if-at-chunk.false (least_le _ _ _ c.least-most.ensures) (c.may_prompt.ensures c.if-may_prompt.false)
 
 pub returns : goal.returns
 returns c = c.run.ensures.filled

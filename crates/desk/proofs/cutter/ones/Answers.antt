@@ -9,8 +9,7 @@ returns-then-b-eq10 c = c.loop-n.invariant
 
 pub loop-n-preserved : goal.loop-n-preserved
 loop-n-preserved c =
-    let f = c in
-    laid_byte f.requires f.loop-n.invariant c.loop-n-test.true c.if-b-eq10.false
+    laid_byte c.requires c.loop-n.invariant c.loop-n-test.true c.if-b-eq10.false
 
 pub returns : goal.returns
 returns c = c.loop-n.invariant

@@ -15,16 +15,15 @@ push-p-requires c = c.fill-n.ensures.long ∙ c.loop-i.invariant.1
 
 pub loop-i-preserved : goal.loop-i-preserved
 loop-i-preserved c =
-    let f = c in (
+    (
       omega arith,
       c.push-p.ensures.1,
       search rules,
-      sym (search_on _ _ _ c.if-i-chunk.false c.push-p.ensures.0 (sym (c.is_stop.ensures _) ∙ c.if-is_stop.false)) ∙ sym f.fill-n.ensures.on ∙ f.loop-i.invariant.3,
+      sym (search_on _ _ _ c.if-i-chunk.false c.push-p.ensures.0 (sym (c.is_stop.ensures _) ∙ c.if-is_stop.false)) ∙ sym c.fill-n.ensures.on ∙ c.loop-i.invariant.3,
     )
 
 pub returns-then-i-chunk : goal.returns-then-i-chunk
 returns-then-i-chunk c = (sym (search_end _ _ _ c.if-i-chunk.true) ∙ sym c.fill-n.ensures.on ∙ c.loop-i.invariant.3, c.fill-n.ensures.long ∙ c.loop-i.invariant.1)
 
 pub returns-then-is_stop : goal.returns-then-is_stop
-returns-then-is_stop c = let f = c in
-    (sym (search_stop _ _ _ c.if-i-chunk.false c.push-p.ensures.0 (sym (c.is_stop.ensures _) ∙ c.if-is_stop.true)) ∙ sym f.fill-n.ensures.on ∙ f.loop-i.invariant.3, c.push-p.ensures.1)
+returns-then-is_stop c = (sym (search_stop _ _ _ c.if-i-chunk.false c.push-p.ensures.0 (sym (c.is_stop.ensures _) ∙ c.if-is_stop.true)) ∙ sym c.fill-n.ensures.on ∙ c.loop-i.invariant.3, c.push-p.ensures.1)

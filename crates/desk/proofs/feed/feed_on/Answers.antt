@@ -13,5 +13,4 @@ rule-ruled-requires c = let s = c.search-found in
     (omega (arith, few, s.ensures.1), omega (arith, few, c.if-text-lt256.false))
 
 pub returns : goal.returns
-returns c = let m = c in
-    fed_ruled _ _ _ m.search-found.ensures.0 m.if-text-lt256.false c.rule-ruled.ensures
+returns c = fed_ruled _ _ _ c.search-found.ensures.0 c.if-text-lt256.false c.rule-ruled.ensures

@@ -19,14 +19,11 @@ pub returns-in-Blank : goal.returns-in-Blank
 returns-in-Blank c = rw c.in-Blank.is (ruled_none _ _ _)
 
 pub returns-in-Overlong : goal.returns-in-Overlong
-returns-in-Overlong c = let s = c in
-    rw (c.in-Overlong.is, c.next-ordinal.ensures)
-    (ruled_overlong _ _ _ refl (overlong_keeps (kept_says s.args.sent.now s.args.echo s.args.command s.args.counted) _ c.size_of-size.ensures))
+returns-in-Overlong c = rw (c.in-Overlong.is, c.next-ordinal.ensures)
+    (ruled_overlong _ _ _ refl (overlong_keeps (kept_says c.args.sent.now c.args.echo c.args.command c.args.counted) _ c.size_of-size.ensures))
 
 pub returns-in-Line : goal.returns-in-Line
-returns-in-Line c = let m = c in
-    let s = m in
-    let fits = rw c.in-Line.is at s.requires.0 in
-    let room = rw c.in-Line.is at s.requires.1 in
+returns-in-Line c = let fits = rw c.in-Line.is at c.requires.0 in
+    let room = rw c.in-Line.is at c.requires.1 in
     rw (c.in-Line.is, c.next-ordinal-in-Line.ensures)
-    (ruled_line (kept_says s.args.sent.now s.args.echo s.args.command s.args.counted) s.args.taken s.args.text.now refl s.args.line.now _ fits (c.rule_line-heard.ensures s.args.counted) (laid_front s.args.line.now s.args.text.now _ _ _ fits room c.lay-end.ensures))
+    (ruled_line (kept_says c.args.sent.now c.args.echo c.args.command c.args.counted) c.args.taken c.args.text.now refl c.args.line.now _ fits (c.rule_line-heard.ensures c.args.counted) (laid_front c.args.line.now c.args.text.now _ _ _ fits room c.lay-end.ensures))

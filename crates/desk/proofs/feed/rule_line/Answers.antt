@@ -17,8 +17,7 @@ returns-then-is_echo c = λ counted. let a = c.args in
     line_echo k _ c.size_of-size.ensures a.line.now c.if-size-eq0.false _ front (sym c.is_echo.ensures ∙ c.if-is_echo.true)
 
 pub returns : goal.returns
-returns c = λ counted. let m = c in
-    let a = m.args in
+returns c = λ counted. let a = c.args in
     let k = kept_says a.sent.now a.echo a.command counted in
-    let front = m.part.ensures.bytes ∙ from_start _ _ in
-    line_early k _ m.size_of-size.ensures a.line.now m.if-size-eq0.false _ front (sym m.is_echo.ensures ∙ c.if-is_echo.false) c.sort_of-sort-2.ensures c.judge-j-2.ensures
+    let front = c.part.ensures.bytes ∙ from_start _ _ in
+    line_early k _ c.size_of-size.ensures a.line.now c.if-size-eq0.false _ front (sym c.is_echo.ensures ∙ c.if-is_echo.false) c.sort_of-sort-2.ensures c.judge-j-2.ensures

@@ -12,13 +12,9 @@ pub returns-then-len-gt0 : goal.returns-then-len-gt0
 returns-then-len-gt0 c = λ bytes sent full. open_held _ _ (sym c.is_open.ensures ∙ c.if-is_open.false) _ _ (clear_not _ full c.if-len-gt0.true)
 
 pub returns-in-Refused : goal.returns-in-Refused
-returns-in-Refused c = λ bytes sent full. let m = c in
-    let e = m in
-    open_refused _ _ (sym e.is_open.ensures ∙ e.if-is_open.false) (clear_empty _ e.if-len-gt0.false) _ _ (rw c.in-Refused.is at m.encode-written.ensures.says) m.encode-written.ensures.holds
+returns-in-Refused c = λ bytes sent full. open_refused _ _ (sym c.is_open.ensures ∙ c.if-is_open.false) (clear_empty _ c.if-len-gt0.false) _ _ (rw c.in-Refused.is at c.encode-written.ensures.says) c.encode-written.ensures.holds
 
 pub returns-in-Size : goal.returns-in-Size
-returns-in-Size c = λ bytes sent full. let m = c in
-    let e = m in
-    let a = e.args in
+returns-in-Size c = λ bytes sent full. let a = c.args in
     rw (c.opened-opened.ensures ∙ ap awaiting (c.awaits-awaits.ensures ∙ sym (any_texts a.request a.first.now a.second.now)))
-    (open_written _ _ (sym e.is_open.ensures ∙ e.if-is_open.false) (clear_empty _ e.if-len-gt0.false) _ _ (rw c.in-Size.is at m.encode-written.ensures.says) m.encode-written.ensures.holds)
+    (open_written _ _ (sym c.is_open.ensures ∙ c.if-is_open.false) (clear_empty _ c.if-len-gt0.false) _ _ (rw c.in-Size.is at c.encode-written.ensures.says) c.encode-written.ensures.holds)

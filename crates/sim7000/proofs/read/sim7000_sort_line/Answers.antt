@@ -14,7 +14,7 @@ pub overflow_add-result-in-Refused : goal.overflow_add-result-in-Refused
 overflow_add-result-in-Refused c = let h = taker_low _ _ c.taker-taker.ensures (ap taker_says c.in-Refused.is) in search rules
 
 pub returns-in-Response : goal.returns-in-Response
-returns-in-Response c = let m = c in rw (c.place.ensures, sym (taker_number_lem _ _ m.taker-taker.ensures), c.in-Response.is)
+returns-in-Response c = rw (c.place.ensures, sym (taker_number_lem _ _ c.taker-taker.ensures), c.in-Response.is)
 
 pub returns-in-GnssReport : goal.returns-in-GnssReport
 returns-in-GnssReport c = rw (sym (taker_number_lem _ _ c.taker-taker.ensures), c.in-GnssReport.is)

@@ -6,14 +6,10 @@ pub returns-in-Not : goal.returns-in-Not
 returns-in-Not c = writes_none _ _ _ (rw c.in-Not.is at (c.request_in-wanted.ensures c.args.first.now c.args.second.now))
 
 pub returns-in-Refused : goal.returns-in-Refused
-returns-in-Refused c = let m = c in
-    let w = m in
-    let a = w.args in
-    writes_refused _ _ _ (rw c.in-Is.is at (w.request_in-wanted.ensures a.first.now a.second.now)) m.encode-encoded.ensures.holds (rw c.in-Refused.is at m.encode-encoded.ensures.says)
+returns-in-Refused c = let a = c.args in
+    writes_refused _ _ _ (rw c.in-Is.is at (c.request_in-wanted.ensures a.first.now a.second.now)) c.encode-encoded.ensures.holds (rw c.in-Refused.is at c.encode-encoded.ensures.says)
 
 pub returns-in-Size : goal.returns-in-Size
-returns-in-Size c = let m = c in
-    let w = m in
-    let a = w.args in
+returns-in-Size c = let a = c.args in
     rw c.number_in.ensures
-    (writes_size _ _ _ (rw c.in-Is.is at (w.request_in-wanted.ensures a.first.now a.second.now)) m.encode-encoded.ensures.holds (rw c.in-Size.is at m.encode-encoded.ensures.says))
+    (writes_size _ _ _ (rw c.in-Is.is at (c.request_in-wanted.ensures a.first.now a.second.now)) c.encode-encoded.ensures.holds (rw c.in-Size.is at c.encode-encoded.ensures.says))

@@ -6,9 +6,7 @@ use Rattle.sim7000.proofs.values.fix_values.Goals as goal
 -- eight that stand there, eight floats and four counts
 pub returns : goal.returns
 returns c =
-    let g = c in
-    let f = g in
     next refl (next refl (next refl (next refl (next refl (next refl (next refl (next refl
-    (next f.float.ensures (next f.float-2.ensures (next f.float-3.ensures (next f.float-4.ensures
-    (next g.float-5.ensures (next g.float-6.ensures (next g.float-7.ensures (next g.float-8.ensures
+    (next c.float.ensures (next c.float-2.ensures (next c.float-3.ensures (next c.float-4.ensures
+    (next c.float-5.ensures (next c.float-6.ensures (next c.float-7.ensures (next c.float-8.ensures
     (next c.wide.ensures (next c.wide-2.ensures (next c.wide-3.ensures (next c.wide-4.ensures refl)))))))))))))))))))

@@ -23,10 +23,9 @@ overflow_shr-state c = search (rules, small)
 
 pub loop-i-preserved : goal.loop-i-preserved
 unfolding row
-loop-i-preserved c = let l = c in
-    let s = l.args.s.now in
+loop-i-preserved c = let s = c.args.s.now in
     let p = c.place in
-    at_more s l.loop-i.state l.loop-i.i l.loop-i.invariant p.result (get_or (tabled letter 0 256) p.result 0) (search rules) p.ensures.0 p.ensures.1
+    at_more s c.loop-i.state c.loop-i.i c.loop-i.invariant p.result (get_or (tabled letter 0 256) p.result 0) (search rules) p.ensures.0 p.ensures.1
     (entry letter 0 256 p.result p.ensures.1)
 
 pub returns : goal.returns

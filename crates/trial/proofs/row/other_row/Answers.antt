@@ -3,13 +3,11 @@ use Rattle.trial.proofs.row.other_row.Goals as goal
 
 pub number_row-requires : goal.number_row-requires
 number_row-requires c =
-    let t = c in
-    let line = t.args.line.now in
-    let first = first_classed line _ _ _ t.classes_of-ends.ensures t.first_byte.ensures in
-    (is_numbered line _ first c.if-ends-eq-DIGIT.true, last_classed line _ _ _ t.classes_of-ends.ensures t.last_byte.ensures)
+    let line = c.args.line.now in
+    let first = first_classed line _ _ _ c.classes_of-ends.ensures c.first_byte.ensures in
+    (is_numbered line _ first c.if-ends-eq-DIGIT.true, last_classed line _ _ _ c.classes_of-ends.ensures c.last_byte.ensures)
 
 pub returns : goal.returns
 returns c =
-    let t = c in
-    let line = t.args.line.now in
-    other_none line _ t.requires (first_classed line _ _ _ t.classes_of-ends.ensures t.first_byte.ensures) c.if-ends-eq-DIGIT.false
+    let line = c.args.line.now in
+    other_none line _ c.requires (first_classed line _ _ _ c.classes_of-ends.ensures c.first_byte.ensures) c.if-ends-eq-DIGIT.false

@@ -15,6 +15,5 @@ returns-then-k-ne0 c = taker_refused _ _ c.refusal_at-k.ensures c.if-k-ne0.true
 
 pub returns : goal.returns
 returns c =
-    let m = c in
-    let row = subst (λ (l : List ℕ). Points all_conditions l m.row_of-row.result) m.skip.ensures.bytes m.row_of-row.ensures in
-    c.taker_at.ensures ∙ taker_taken _ _ row _ m.refusal_at-k.ensures c.if-k-ne0.false
+    let row = subst (λ (l : List ℕ). Points all_conditions l c.row_of-row.result) c.skip.ensures.bytes c.row_of-row.ensures in
+    c.taker_at.ensures ∙ taker_taken _ _ row _ c.refusal_at-k.ensures c.if-k-ne0.false

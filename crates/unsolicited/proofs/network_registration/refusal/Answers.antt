@@ -9,4 +9,4 @@ pub returns-then-n-gt1 : goal.returns-then-n-gt1
 returns-then-n-gt1 c = search (rules, refuses, no_place)
 
 pub returns : goal.returns
-returns c = let m = c in c.refusal_at.ensures ∙ ap refusal_in (at_place _ _ _ _ m.field_count.ensures m.status_place-n.ensures (search rules))
+returns c = c.refusal_at.ensures ∙ ap refusal_in (at_place _ _ _ _ c.field_count.ensures c.status_place-n.ensures (search rules))

@@ -8,19 +8,19 @@ use Rattle.unsolicited.proofs.straight.checked_at.Goals as goal
 
 pub returns-in-0 : goal.returns-in-0
 unfolding urc_reading_at urc_readings
-returns-in-0 c = let m = c in said_at gnss ugnsinf_text 0 (λ l. refl) _ _ m.in-0.is _ _ c.from_checked.ensures c.of_report.ensures
+returns-in-0 c = said_at gnss ugnsinf_text 0 (λ l. refl) _ _ c.in-0.is _ _ c.from_checked.ensures c.of_report.ensures
 
 pub returns-in-1 : goal.returns-in-1
 unfolding urc_reading_at urc_readings
-returns-in-1 c = let m = c in said_at registration creg_text 1 (λ l. refl) _ _ m.in-1.is _ _ c.from_checked-in-1.ensures c.of_registration.ensures
+returns-in-1 c = said_at registration creg_text 1 (λ l. refl) _ _ c.in-1.is _ _ c.from_checked-in-1.ensures c.of_registration.ensures
 
 pub returns-in-2 : goal.returns-in-2
 unfolding urc_reading_at urc_readings
-returns-in-2 c = let m = c in said_at registration cgreg_text 2 (λ l. refl) _ _ m.in-2.is _ _ c.from_checked-in-2.ensures c.of_registration-in-2.ensures
+returns-in-2 c = said_at registration cgreg_text 2 (λ l. refl) _ _ c.in-2.is _ _ c.from_checked-in-2.ensures c.of_registration-in-2.ensures
 
 pub returns-in-3 : goal.returns-in-3
 unfolding urc_reading_at urc_readings
-returns-in-3 c = let m = c in said_at registration cereg_text 3 (λ l. refl) _ _ m.in-3.is _ _ c.from_checked-in-3.ensures c.of_registration-in-3.ensures
+returns-in-3 c = said_at registration cereg_text 3 (λ l. refl) _ _ c.in-3.is _ _ c.from_checked-in-3.ensures c.of_registration-in-3.ensures
 
 pub returns-in_default : goal.returns-in_default
 unfolding urc_reading_at urc_readings

@@ -6,11 +6,9 @@ use Rattle.text.proofs.ReaderStarts.{start_before, starts_field}
 use Rattle.unsolicited.proofs.ugnsinf.field_at.Goals as goal
 
 pub overflow_sub-next : goal.overflow_sub-next
-overflow_sub-next c = let m = c in
-    let z : m.args.n < length (fields 44 m.args.rest.now) = rw m.requires.0.count m.requires.1 in
-    start_before _ _ m.requires.0.starts m.args.n m.requires.1 z
+overflow_sub-next c = let z : c.args.n < length (fields 44 c.args.rest.now) = rw c.requires.0.count c.requires.1 in
+    start_before _ _ c.requires.0.starts c.args.n c.requires.1 z
 
 pub returns : goal.returns
-returns c = let m = c in
-    let z : m.args.n < length (fields 44 m.args.rest.now) = rw m.requires.0.count m.requires.1 in
-    starts_field _ _ m.requires.0.starts m.args.n m.requires.1 z _ _ refl c.part.ensures.bytes
+returns c = let z : c.args.n < length (fields 44 c.args.rest.now) = rw c.requires.0.count c.requires.1 in
+    starts_field _ _ c.requires.0.starts c.args.n c.requires.1 z _ _ refl c.part.ensures.bytes

@@ -15,16 +15,4 @@ count_or_zero-ratio-requires c = (c.requires, omega arith)
 
 pub returns : goal.returns
 returns c =
-    let m12 = c in
-    let m11 = m12 in
-    let m10 = m11 in
-    let m9 = m10 in
-    let m8 = m9 in
-    let m7 = m8 in
-    let m6 = m7 in
-    let m5 = m6 in
-    let m4 = m5 in
-    let m3 = m4 in
-    let m2 = m3 in
-    let m1 = m2 in
-    c.fix_if.ensures ∙ fix_is _ _ m1.float_at-latitude.result m2.float_at-longitude.result m3.float_at-altitude.result m4.float_or_zero-speed.result m5.float_or_zero-course.result m6.float_or_zero-hdop.result m7.float_or_zero-pdop.result m8.float_or_zero-vdop.result m9.count_or_zero-in_view.result m10.count_or_zero-gnss.result m11.count_or_zero-glonass.result m12.count_or_zero-ratio.result m1.float_at-latitude.ensures m2.float_at-longitude.ensures m3.float_at-altitude.ensures m4.float_or_zero-speed.ensures m5.float_or_zero-course.ensures m6.float_or_zero-hdop.ensures m7.float_or_zero-pdop.ensures m8.float_or_zero-vdop.ensures m9.count_or_zero-in_view.ensures m10.count_or_zero-gnss.ensures m11.count_or_zero-glonass.ensures m12.count_or_zero-ratio.ensures
+    c.fix_if.ensures ∙ fix_is _ _ c.float_at-latitude.result c.float_at-longitude.result c.float_at-altitude.result c.float_or_zero-speed.result c.float_or_zero-course.result c.float_or_zero-hdop.result c.float_or_zero-pdop.result c.float_or_zero-vdop.result c.count_or_zero-in_view.result c.count_or_zero-gnss.result c.count_or_zero-glonass.result c.count_or_zero-ratio.result c.float_at-latitude.ensures c.float_at-longitude.ensures c.float_at-altitude.ensures c.float_or_zero-speed.ensures c.float_or_zero-course.ensures c.float_or_zero-hdop.ensures c.float_or_zero-pdop.ensures c.float_or_zero-vdop.ensures c.count_or_zero-in_view.ensures c.count_or_zero-gnss.ensures c.count_or_zero-glonass.ensures c.count_or_zero-ratio.ensures

@@ -11,5 +11,4 @@ returns-then-out-decimal_size c = no_room (command_of (read_sms c.args.self.inde
 
 pub returns : goal.returns
 returns c =
-    let s = c in
-    laid _ _ _ _ (lay_on (lay_on s.lay-at.ensures s.lay_decimal-at.ensures) c.lay_byte.ensures)
+    laid _ _ _ _ (lay_on (lay_on c.lay-at.ensures c.lay_decimal-at.ensures) c.lay_byte.ensures)

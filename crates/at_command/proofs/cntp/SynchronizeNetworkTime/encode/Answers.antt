@@ -13,11 +13,9 @@ pub quoted_size-requires : goal.quoted_size-requires
 quoted_size-requires c = search first_limited
 
 pub returns-then-out-quoted_size : goal.returns-then-out-quoted_size
-returns-then-out-quoted_size c = let s = c in
-    let a = s.args in
-    refuses_7 (synchronize_network_time a.ntp_server.now a.self.timezone a.self.cid) _ _ s.refusal-refusal.ensures s.if-refusal-gt0.false _ (simp length-append (omega arith)) c.if-out-quoted_size.true
+returns-then-out-quoted_size c = let a = c.args in
+    refuses_7 (synchronize_network_time a.ntp_server.now a.self.timezone a.self.cid) _ _ c.refusal-refusal.ensures c.if-refusal-gt0.false _ (simp length-append (omega arith)) c.if-out-quoted_size.true
 
 pub returns : goal.returns
-returns c = let s = c in
-    let a = s.args in
-    writes (synchronize_network_time a.ntp_server.now a.self.timezone a.self.cid) _ _ s.refusal-refusal.ensures s.if-refusal-gt0.false _ _ c.lay_sync.ensures
+returns c = let a = c.args in
+    writes (synchronize_network_time a.ntp_server.now a.self.timezone a.self.cid) _ _ c.refusal-refusal.ensures c.if-refusal-gt0.false _ _ c.lay_sync.ensures

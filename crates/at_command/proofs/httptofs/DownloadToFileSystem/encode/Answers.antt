@@ -13,17 +13,14 @@ pub quoted_size-requires : goal.quoted_size-requires
 quoted_size-requires c = search first_limited
 
 pub quoted_size-requires-2 : goal.quoted_size-requires-2
-quoted_size-requires-2 c = let s = c in
-    let a = s.args in
-    let l = second_limited a.url.now a.file_path.now 64 32 _ s.refusal-refusal.ensures s.if-refusal-gt0.false in
+quoted_size-requires-2 c = let a = c.args in
+    let l = second_limited a.url.now a.file_path.now 64 32 _ c.refusal-refusal.ensures c.if-refusal-gt0.false in
     omega arith
 
 pub returns-then-out-quoted_size : goal.returns-then-out-quoted_size
-returns-then-out-quoted_size c = let s = c in
-    let a = s.args in
-    refuses_7 (download_to_file_system a.url.now a.file_path.now) _ _ s.refusal-refusal.ensures s.if-refusal-gt0.false _ (simp length-append (omega arith)) c.if-out-quoted_size.true
+returns-then-out-quoted_size c = let a = c.args in
+    refuses_7 (download_to_file_system a.url.now a.file_path.now) _ _ c.refusal-refusal.ensures c.if-refusal-gt0.false _ (simp length-append (omega arith)) c.if-out-quoted_size.true
 
 pub returns : goal.returns
-returns c = let s = c in
-    let a = s.args in
-    writes (download_to_file_system a.url.now a.file_path.now) _ _ s.refusal-refusal.ensures s.if-refusal-gt0.false _ _ c.lay_download.ensures
+returns c = let a = c.args in
+    writes (download_to_file_system a.url.now a.file_path.now) _ _ c.refusal-refusal.ensures c.if-refusal-gt0.false _ _ c.lay_download.ensures
