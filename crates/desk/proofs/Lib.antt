@@ -6,6 +6,7 @@ pub mod Judging
 pub mod Keeping
 pub mod Echoing
 pub mod Feeding
+pub mod Clearing
 pub mod Opening
 pub mod Commands
 pub mod ManualOperator

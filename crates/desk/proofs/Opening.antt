@@ -1,15 +1,13 @@
 -- Laws of an open: its refusals in order, and what the writer's answer makes of it.
-use Prim.Native.Nat.{ℕ, ◌+◌, ◌≤◌, ◌<◌}
+use Prim.Native.Nat.{ℕ, ◌+◌, ◌≤◌}
 use mathlib.Core.Path.{◌≡◌, refl, sym, ap, ◌∙◌}
 use mathlib.Core.Bool.{Bool, true, false}
 use mathlib.Core.Logic.{⊎_elim}
 use mathlib.Core.List.{List, [], ◌∷◌, ◌++◌}
 use native.Mathlib.Nat.{zero-add}
 use native.Mathlib.Omega.{arith}
-use lib.ListN.{length, take, drop}
-use lib.Seq.{length-take-le, take-append_seam}
-use lib.Dec.{ltb}
-use borrow.Author.Tests.{ltb-false}
+use lib.ListN.{length, drop}
+use lib.Seq.{take-append_seam}
 use Rattle.text.specs.Reading.{Reading, read, refused, mapped}
 use Rattle.at_command.specs.Request.{Asked, get_signal_quality, show_iccid, get_imei, get_operator_info, set_manual_operator, set_automatic_operator, get_system_info, synchronize_network_time, execute, download_to_file_system, get_sms_message_format, set_sms_message_format, read_sms, Numbers, command_of, encode_reading, answers_to, written}
 use Rattle.at_command.specs.Kind.{Kind}
@@ -20,25 +18,10 @@ use Rattle.text.proofs.Copying.{whole_holds}
 use Rattle.text.proofs.Parts.{from_start}
 use Rattle.desk.specs.Cut.{View, dropping, held}
 use Rattle.desk.specs.Judge.{Command, awaiting, echoing, is_open}
-use Rattle.desk.specs.Desk.{Tray, command_kept, keep, State, view_of, is_clear, Opened, allowed, opened_with, opened}
+use Rattle.desk.specs.Desk.{command_kept, keep, State, view_of, is_clear, Opened, allowed, opened_with, opened}
 use Rattle.desk.specs.Demand.{accepts}
 use Rattle.text.proofs.Tests.{both, never}
 use Rattle.text.proofs.Yields.{Yields, yields_cond}
-
--- ---- whether the desk is clear
-
-some_held : (l : List ℕ) → 0 < length l → is_clear (held l) ≡ false
-some_held [] h = absurd (omega arith)
-some_held (b ∷ bs) h = refl
-
-pub clear_empty : (t : Tray) → t.len ≤ 0 → is_clear (view_of t) ≡ true
-clear_empty t h = let e : t.len ≡ 0 = omega arith in rw e
-
-pub clear_not : (t : Tray) → length t.bytes ≡ 257 → 0 < t.len → is_clear (view_of t) ≡ false
-clear_not t full h =
-    ⊎_elim (λ e. rw e)
-    (λ e. rw e (some_held (take t.len t.bytes) (let k = ltb-false 257 t.len e in omega (arith, length-take-le t.len t.bytes (omega arith)))))
-    (both (ltb 257 t.len))
 
 -- ---- the refusals, and the answer
 

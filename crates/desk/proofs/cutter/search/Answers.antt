@@ -14,13 +14,12 @@ pub push-p-requires : goal.push-p-requires
 push-p-requires c = c.fill-n.ensures.long ∙ c.loop-i.invariant.1
 
 pub loop-i-preserved : goal.loop-i-preserved
-loop-i-preserved c =
-    (
-      omega arith,
-      c.push-p.ensures.1,
-      search rules,
-      sym (search_on _ _ _ c.if-i-chunk.false c.push-p.ensures.0 (sym (c.is_stop.ensures _) ∙ c.if-is_stop.false)) ∙ sym c.fill-n.ensures.on ∙ c.loop-i.invariant.3,
-    )
+loop-i-preserved c = (
+  omega arith,
+  c.push-p.ensures.1,
+  search rules,
+  sym (search_on _ _ _ c.if-i-chunk.false c.push-p.ensures.0 (sym (c.is_stop.ensures _) ∙ c.if-is_stop.false)) ∙ sym c.fill-n.ensures.on ∙ c.loop-i.invariant.3,
+)
 
 pub returns-then-i-chunk : goal.returns-then-i-chunk
 returns-then-i-chunk c = (sym (search_end _ _ _ c.if-i-chunk.true) ∙ sym c.fill-n.ensures.on ∙ c.loop-i.invariant.3, c.fill-n.ensures.long ∙ c.loop-i.invariant.1)

@@ -2,7 +2,8 @@
 use mathlib.Core.Path.{sym, ap, ◌∙◌}
 use Rattle.at_command.proofs.OneRequest.{any_texts}
 use Rattle.desk.specs.Judge.{awaiting}
-use Rattle.desk.proofs.Opening.{clear_empty, clear_not, open_busy, open_held, open_refused, open_written}
+use Rattle.desk.proofs.Clearing.{clear_empty, clear_not}
+use Rattle.desk.proofs.Opening.{open_busy, open_held, open_refused, open_written}
 use Rattle.desk.proofs.open.open_on.Goals as goal
 
 pub returns-then-is_open : goal.returns-then-is_open
