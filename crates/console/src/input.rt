@@ -1,10 +1,10 @@
 // Lines of standard input, cut at LF in a lent buffer.
-ghost use Rattle.std.specs.Prelude.{◌+◌, ◌-◌, ◌≤◌, length};
+ghost use Rattle.std.specs.Prelude.{◌+◌, ◌-◌, ◌≤◌, length, IfOk};
 ghost use Rattle.text.specs.Gives.{Gives};
 ghost use Rattle.console.specs.Input.{NextLineKeeps, NextTurnKeeps};
 
 use crate::output;
-use libc::STDIN_FILENO;
+use std::io::{Read, Write};
 use text::part::Place;
 use text::{bytes, copy, part};
 
@@ -50,18 +50,18 @@ fn keep(buffer: &mut [u8], start: usize, end: usize) -> usize
 }
 
 // Reads behind the first n bytes, and says how many there are then.
-fn fill(buffer: &mut [u8], n: usize) -> usize
+fn fill<R: Read>(reader: &mut R, buffer: &mut [u8], n: usize) -> std::io::Result<usize>
     requires { n ≤ length buffer.old }
-    ensures { (n ≤ result) × (result ≤ length buffer.new) }
+    ensures { IfOk result (λ end. (n ≤ end) × (end ≤ length buffer.new)) }
 {
-    let got = libc::read(STDIN_FILENO, &mut buffer[n..]);
-    n + io::count(got, &buffer[n..])
+    let got = reader.read(&mut buffer[n..])?;
+    Ok(n + got)
 }
 
 // The next line, with what is read behind it in `rest`. A last line needs no LF. A line of more than half the buffer is handed out without some of its
 // bytes, and is then still as long as half the buffer.
-fn next_line(buffer: &mut [u8], rest: Place) -> Next
-    ensures { NextLineKeeps result buffer.new }
+fn next_line<R: Read>(reader: &mut R, buffer: &mut [u8], rest: Place) -> std::io::Result<Next>
+    ensures { IfOk result (λ next. NextLineKeeps next buffer.new) }
 {
     let mut start = rest.start;
     let mut end = rest.end;
@@ -72,29 +72,29 @@ fn next_line(buffer: &mut [u8], rest: Place) -> Next
         let read = part::part(buffer, 0, end);
         let e = bytes::find(read, from, b'\n');
         if e < read.len() {
-            return Next {
+            return Ok(Next {
                 line: Place { start, end: e },
                 rest: Place { start: e + 1, end },
                 there: true,
-            };
+            });
         }
         from = keep(buffer, start, end);
-        end = fill(buffer, from);
+        end = fill(reader, buffer, from)?;
         if end == from {
-            return Next {
+            return Ok(Next {
                 line: Place { start: 0, end },
                 rest: Place { start: end, end },
                 there: 0 < end,
-            };
+            });
         }
         start = 0;
         turns -= 1;
     }
-    Next {
+    Ok(Next {
         line: NOWHERE,
         rest: NOWHERE,
         there: false,
-    }
+    })
 }
 
 fn one_less(n: u64) -> u64
@@ -106,27 +106,38 @@ fn one_less(n: u64) -> u64
     n - 1
 }
 
-// The turn of the next line. At the end of the input all that stands in out is written.
-pub fn next_turn(buffer: &mut [u8], out: &[u8], turn: Turn) -> Turn
-    ensures { NextTurnKeeps turn result buffer.new }
+// The turn of the next line. At the end of the input, and where a read fails, all that stands in out
+// is written.
+pub fn next_turn<R: Read, W: Write>(
+    reader: &mut R,
+    writer: &mut W,
+    buffer: &mut [u8],
+    out: &[u8],
+    turn: Turn,
+) -> std::io::Result<Turn>
+    ensures { IfOk result (λ next. NextTurnKeeps turn next buffer.new) }
 {
     let read = turn.rest;
-    let next = next_line(buffer, read);
+    let cut = next_line(reader, buffer, read);
+    if cut.is_err() {
+        output::flush(writer, out, turn.at)?;
+    }
+    let next = cut?;
     let line = next.line;
     let rest = next.rest;
     if next.there {
-        return Turn {
+        return Ok(Turn {
             line,
             rest,
             at: turn.at,
             left: one_less(turn.left),
-        };
+        });
     }
-    output::flush(out, turn.at);
-    Turn {
+    output::flush(writer, out, turn.at)?;
+    Ok(Turn {
         line,
         rest,
         at: 0,
         left: 0,
-    }
+    })
 }

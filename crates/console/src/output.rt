@@ -1,9 +1,9 @@
 // Texts and numbers laid into a lent buffer, one behind the other. Each call says where the next one goes; what has no room is left out.
-ghost use Rattle.std.specs.Prelude.{◌-◌};
+ghost use Rattle.std.specs.Prelude.{◌-◌, IfOk};
 ghost use Rattle.text.specs.Gives.{Gives};
 ghost use Rattle.console.specs.Output.{Puts, PutsDecimal, PutsHex, EndsLine};
 
-use libc::STDOUT_FILENO;
+use std::io::Write;
 use text::{copy, part};
 
 // A line has this much room at least when it begins.
@@ -39,9 +39,9 @@ pub fn put_hex(out: &mut [u8], at: usize, n: u64) -> usize
     put(out, at, &digits[..k])
 }
 
-// Writes the first n bytes of out to standard output.
-pub fn flush(out: &[u8], n: usize) {
-    io::write_all(STDOUT_FILENO, part::part(out, 0, n));
+// Writes the first n bytes of out.
+pub fn flush<W: Write>(writer: &mut W, out: &[u8], n: usize) -> std::io::Result<()> {
+    writer.write_all(part::part(out, 0, n))
 }
 
 // Past this index a buffer of n bytes is nearly full.
@@ -55,13 +55,13 @@ fn nearly_full(n: usize) -> usize
 }
 
 // Ends the line at `at`, writes all where out is nearly full, and says where the next line begins.
-pub fn end_line(out: &mut [u8], at: usize) -> usize
-    ensures { EndsLine at out.old result out.new }
+pub fn end_line<W: Write>(writer: &mut W, out: &mut [u8], at: usize) -> std::io::Result<usize>
+    ensures { IfOk result (λ next. EndsLine at out.old next out.new) }
 {
     let e = put(out, at, b"\n");
     if nearly_full(out.len()) < e {
-        flush(out, e);
-        return 0;
+        flush(writer, out, e)?;
+        return Ok(0);
     }
-    e
+    Ok(e)
 }

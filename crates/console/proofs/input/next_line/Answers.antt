@@ -1,0 +1,6 @@
+use Rattle.std.proofs.Common.{arith}
+use Rattle.console.proofs.Laws.{behind}
+use Rattle.console.proofs.input.next_line.Goals as goal
+
+pub returns-then-e-read : goal.returns-then-e-read
+returns-then-e-read g c = (omega arith, omega (arith, behind _ _ _ _ c.part-read.ensures))
