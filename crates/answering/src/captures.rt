@@ -9,6 +9,7 @@ use crate::{commands, hex};
 use at_command::request::{Encoded, Request};
 use console::output;
 use desk::{Command, Cutter, Desk, Event, FedAnswer, Opened};
+use std::io::Write;
 use text::{bytes, field, part};
 
 // Between two steps: the desk, how many bytes an open is lent for the command, and where the next line of output goes.
@@ -21,21 +22,37 @@ struct Played {
 
 // ---- what is printed
 
-fn word(out: &mut [u8], at: usize, text: &[u8]) -> usize {
+fn word<W: Write>(
+    writer: &mut W,
+    out: &mut [u8],
+    at: usize,
+    text: &[u8],
+) -> std::io::Result<usize> {
     let e = output::put(out, at, text);
-    output::end_line(out, e)
+    output::end_line(writer, out, e)
 }
 
-fn refused(out: &mut [u8], at: usize, number: u8) -> usize {
+fn refused<W: Write>(
+    writer: &mut W,
+    out: &mut [u8],
+    at: usize,
+    number: u8,
+) -> std::io::Result<usize> {
     let a = output::put(out, at, b"refused ");
     let e = output::put_decimal(out, a, number as u64);
-    output::end_line(out, e)
+    output::end_line(writer, out, e)
 }
 
-fn spelled(out: &mut [u8], at: usize, word: &[u8], text: &[u8]) -> usize {
+fn spelled<W: Write>(
+    writer: &mut W,
+    out: &mut [u8],
+    at: usize,
+    word: &[u8],
+    text: &[u8],
+) -> std::io::Result<usize> {
     let a = output::put(out, at, word);
     let e = hex::put(out, a, text);
-    output::end_line(out, e)
+    output::end_line(writer, out, e)
 }
 
 fn put_stray(out: &mut [u8], at: usize, event: Event) -> usize {
@@ -63,26 +80,39 @@ fn put_line(out: &mut [u8], at: usize, line: &[u8]) -> usize {
 }
 
 // The event's word, the ordinal of its line, a stray's number, and the line.
-fn say(out: &mut [u8], at: usize, event: Event, ordinal: u32, line: &[u8]) -> usize {
+fn say<W: Write>(
+    writer: &mut W,
+    out: &mut [u8],
+    at: usize,
+    event: Event,
+    ordinal: u32,
+    line: &[u8],
+) -> std::io::Result<usize> {
     let words = b",unsolicited ,taken ,done ,short ,failed ,stray ,overlong ,echo ";
     let kind = event.number();
     let a = output::put(out, at, field::field(words, b',', kind as usize));
     let b = output::put_decimal(out, a, ordinal as u64);
     let c = put_stray(out, b, event);
     let e = put_line(out, c, line);
-    output::end_line(out, e)
+    output::end_line(writer, out, e)
 }
 
-fn told(answer: FedAnswer, text: &[u8], out: &mut [u8], at: usize) -> usize {
+fn told<W: Write>(
+    writer: &mut W,
+    answer: FedAnswer,
+    text: &[u8],
+    out: &mut [u8],
+    at: usize,
+) -> std::io::Result<usize> {
     match answer {
-        FedAnswer::Refused(k) => refused(out, at, k),
-        FedAnswer::Quiet(_) => at,
+        FedAnswer::Refused(k) => refused(writer, out, at, k),
+        FedAnswer::Quiet(_) => Ok(at),
         FedAnswer::Heard {
             event,
             ordinal,
             taken,
             size,
-        } => say(out, at, event, ordinal, part::part(text, 0, size)),
+        } => say(writer, out, at, event, ordinal, part::part(text, 0, size)),
     }
 }
 
@@ -96,13 +126,13 @@ fn end(out: &mut [u8], at: usize, command: Command) -> usize {
 
 // ---- the steps
 
-fn unknown(play: Played, out: &mut [u8]) -> Played {
+fn unknown<W: Write>(writer: &mut W, play: Played, out: &mut [u8]) -> std::io::Result<Played> {
     let desk = play.desk;
-    Played {
+    Ok(Played {
         desk,
         room: play.room,
-        at: word(out, play.at, b"unknown"),
-    }
+        at: word(writer, out, play.at, b"unknown")?,
+    })
 }
 
 // The bytes that an answer tells as taken; all are where it is a refusal.
@@ -131,7 +161,13 @@ fn onward(from: usize, more: usize, all: usize) -> usize {
 }
 
 // Feeds a chunk, event by event, until all its bytes are taken.
-fn feed(play: Played, chunk: &[u8], text: &mut [u8], out: &mut [u8]) -> Played {
+fn feed<W: Write>(
+    writer: &mut W,
+    play: Played,
+    chunk: &[u8],
+    text: &mut [u8],
+    out: &mut [u8],
+) -> std::io::Result<Played> {
     let mut desk = play.desk;
     let mut at = play.at;
     let mut from = 0;
@@ -139,24 +175,24 @@ fn feed(play: Played, chunk: &[u8], text: &mut [u8], out: &mut [u8]) -> Played {
     let mut turns = chunk.len();
     while 0 < turns {
         if chunk.len() <= from {
-            return Played {
+            return Ok(Played {
                 desk,
                 room: play.room,
                 at,
-            };
+            });
         }
         let fed = desk.feed(part::skip(chunk, from), text);
         let answer = fed.answer;
         desk = fed.desk;
-        at = told(answer, text, out, at);
+        at = told(writer, answer, text, out, at)?;
         from = onward(from, taken_by(answer, chunk.len()), chunk.len());
         turns -= 1;
     }
-    Played {
+    Ok(Played {
         desk,
         room: play.room,
         at,
-    }
+    })
 }
 
 // So many, and at most as many as there are.
@@ -170,17 +206,23 @@ fn at_most(there: usize, n: usize) -> usize
 }
 
 // One feed with a text buffer that is a byte too short.
-fn feed_short(play: Played, chunk: &[u8], text: &mut [u8], out: &mut [u8]) -> Played {
+fn feed_short<W: Write>(
+    writer: &mut W,
+    play: Played,
+    chunk: &[u8],
+    text: &mut [u8],
+    out: &mut [u8],
+) -> std::io::Result<Played> {
     let desk = play.desk;
     let n = at_most(text.len(), 255);
     let fed = desk.feed(chunk, &mut text[..n]);
     let answer = fed.answer;
     let after = fed.desk;
-    Played {
+    Ok(Played {
         desk: after,
         room: play.room,
-        at: told(answer, text, out, play.at),
-    }
+        at: told(writer, answer, text, out, play.at)?,
+    })
 }
 
 // The desk is a local, lent to the call that alters it.
@@ -218,27 +260,40 @@ fn opened(desk: Desk, echo: bool, request: Request, asked: &[u8], out: &mut [u8]
 }
 
 // The command that an open wrote, or its refusal.
-fn put_opened(answer: Encoded, command: &[u8], out: &mut [u8], at: usize) -> usize {
+fn put_opened<W: Write>(
+    writer: &mut W,
+    answer: Encoded,
+    command: &[u8],
+    out: &mut [u8],
+    at: usize,
+) -> std::io::Result<usize> {
     match answer {
-        Encoded::Refused(k) => refused(out, at, k),
-        Encoded::Size(n) => spelled(out, at, b"open ", part::part(command, 0, n)),
+        Encoded::Refused(k) => refused(writer, out, at, k),
+        Encoded::Size(n) => spelled(writer, out, at, b"open ", part::part(command, 0, n)),
     }
 }
 
-fn open(play: Played, echo: bool, asked: &[u8], command: &mut [u8], out: &mut [u8]) -> Played {
+fn open<W: Write>(
+    writer: &mut W,
+    play: Played,
+    echo: bool,
+    asked: &[u8],
+    command: &mut [u8],
+    out: &mut [u8],
+) -> std::io::Result<Played> {
     let Asked::Is(request) = commands::request_of(asked) else {
-        return unknown(play, out);
+        return unknown(writer, play, out);
     };
     let desk = play.desk;
     let n = at_most(command.len(), play.room);
     let opened = opened(desk, echo, request, asked, &mut command[..n]);
     let answer = opened.answer;
     let after = opened.desk;
-    Played {
+    Ok(Played {
         desk: after,
         room: play.room,
-        at: put_opened(answer, command, out, play.at),
-    }
+        at: put_opened(writer, answer, command, out, play.at)?,
+    })
 }
 
 fn fill(out: &mut [u8], b: u8) {
@@ -264,7 +319,8 @@ fn aged(b: u8) -> Desk {
 }
 
 // Steps that have one byte behind their letter.
-fn play_byte(
+fn play_byte<W: Write>(
+    writer: &mut W,
     play: Played,
     letter: u8,
     first: bool,
@@ -272,53 +328,61 @@ fn play_byte(
     text: &mut [u8],
     command: &mut [u8],
     out: &mut [u8],
-) -> Played {
+) -> std::io::Result<Played> {
     if letter == b'l' {
         let desk = play.desk;
-        return Played {
+        return Ok(Played {
             desk,
             room: b as usize,
             at: play.at,
-        };
+        });
     }
     if !first {
-        return unknown(play, out);
+        return unknown(writer, play, out);
     }
     fill(text, b);
     fill(command, b);
-    Played {
+    Ok(Played {
         desk: aged(b),
         room: play.room,
         at: play.at,
-    }
+    })
 }
 
 // Steps that have none.
-fn play_alone(play: Played, letter: u8, text: &[u8], command: &[u8], out: &mut [u8]) -> Played {
+fn play_alone<W: Write>(
+    writer: &mut W,
+    play: Played,
+    letter: u8,
+    text: &[u8],
+    command: &[u8],
+    out: &mut [u8],
+) -> std::io::Result<Played> {
     let desk = play.desk;
     if letter == b'r' {
-        return Played {
+        return Ok(Played {
             desk: reset(desk),
             room: play.room,
             at: play.at,
-        };
+        });
     }
     if letter == b't' {
-        return Played {
+        return Ok(Played {
             desk,
             room: play.room,
-            at: spelled(out, play.at, b"text ", text),
-        };
+            at: spelled(writer, out, play.at, b"text ", text)?,
+        });
     }
-    Played {
+    Ok(Played {
         desk,
         room: play.room,
-        at: spelled(out, play.at, b"command ", command),
-    }
+        at: spelled(writer, out, play.at, b"command ", command)?,
+    })
 }
 
 // A step by its letter and the bytes behind it.
-fn act(
+fn act<W: Write>(
+    writer: &mut W,
     play: Played,
     letter: u8,
     first: bool,
@@ -326,44 +390,46 @@ fn act(
     text: &mut [u8],
     command: &mut [u8],
     out: &mut [u8],
-) -> Played {
+) -> std::io::Result<Played> {
     match letter {
-        b'f' => feed(play, given, text, out),
-        b's' => feed_short(play, given, text, out),
-        b'o' => open(play, false, given, command, out),
-        b'e' => open(play, true, given, command, out),
+        b'f' => feed(writer, play, given, text, out),
+        b's' => feed_short(writer, play, given, text, out),
+        b'o' => open(writer, play, false, given, command, out),
+        b'e' => open(writer, play, true, given, command, out),
         b'l' | b'x' => {
             if given.len() == 1 {
-                return play_byte(play, letter, first, given[0], text, command, out);
+                return play_byte(writer, play, letter, first, given[0], text, command, out);
             }
-            unknown(play, out)
+            unknown(writer, play, out)
         }
         b'r' | b't' | b'c' => {
             if given.len() == 0 {
-                return play_alone(play, letter, text, command, out);
+                return play_alone(writer, play, letter, text, command, out);
             }
-            unknown(play, out)
+            unknown(writer, play, out)
         }
-        _ => unknown(play, out),
+        _ => unknown(writer, play, out),
     }
 }
 
-fn step(
+fn step<W: Write>(
+    writer: &mut W,
     play: Played,
     first: bool,
     step: &[u8],
     text: &mut [u8],
     command: &mut [u8],
     out: &mut [u8],
-) -> Played {
+) -> std::io::Result<Played> {
     if step.len() == 0 {
-        return unknown(play, out);
+        return unknown(writer, play, out);
     }
     let mut given = [0u8; 16384];
     let Spelled::Is(n) = hex::decode(part::skip(step, 1), &mut given) else {
-        return unknown(play, out);
+        return unknown(writer, play, out);
     };
     act(
+        writer,
         play,
         step[0],
         first,
@@ -385,20 +451,43 @@ fn behind(e: usize, all: usize) -> usize
 }
 
 // The steps of a line, one space between two.
-fn play_all(line: &[u8], text: &mut [u8], command: &mut [u8], out: &mut [u8], at: usize) -> Played {
+fn play_all<W: Write>(
+    writer: &mut W,
+    line: &[u8],
+    text: &mut [u8],
+    command: &mut [u8],
+    out: &mut [u8],
+    at: usize,
+) -> std::io::Result<Played> {
     let mut played = Played {
         desk: Desk::new(),
         room: 256,
         at,
     };
     let mut e = bytes::find(line, 0, b' ');
-    played = step(played, true, part::part(line, 0, e), text, command, out);
+    played = step(
+        writer,
+        played,
+        true,
+        part::part(line, 0, e),
+        text,
+        command,
+        out,
+    )?;
     while e < line.len() {
         let from = behind(e, line.len());
         e = bytes::find(line, from, b' ');
-        played = step(played, false, part::part(line, from, e), text, command, out);
+        played = step(
+            writer,
+            played,
+            false,
+            part::part(line, from, e),
+            text,
+            command,
+            out,
+        )?;
     }
-    played
+    Ok(played)
 }
 
 // A line of which some bytes may be gone (see console::input) is no step.
@@ -409,11 +498,16 @@ fn whole(line: &[u8]) -> &[u8] {
     line
 }
 
-pub(crate) fn answer(out: &mut [u8], at: usize, line: &[u8]) -> usize {
+pub(crate) fn answer<W: Write>(
+    writer: &mut W,
+    out: &mut [u8],
+    at: usize,
+    line: &[u8],
+) -> std::io::Result<usize> {
     let mut text = [0u8; 256];
     let mut command = [0u8; 256];
-    let played = play_all(whole(line), &mut text, &mut command, out, at);
+    let played = play_all(writer, whole(line), &mut text, &mut command, out, at)?;
     let desk = played.desk;
     let last = desk.command;
-    end(out, played.at, last)
+    Ok(end(out, played.at, last))
 }

@@ -2,10 +2,11 @@
 // by the others with one. Lines are cut at LF, and a last line needs none.
 #![tactic(auto)]
 
-ghost use Rattle.std.specs.Prelude.{◌-◌, ◌≤◌};
+ghost use Rattle.std.specs.Prelude.{◌-◌, ◌≤◌, IfOk};
 
 use console::input::{FIRST, Turn};
 use console::{input, output};
+use std::io::{Input, Print, Read, Write};
 use text::part;
 
 mod captures;
@@ -15,7 +16,7 @@ mod hex;
 mod lines;
 mod vectors;
 
-#[derive(Drop)]
+#[derive(Clone, Copy)]
 pub enum Program {
     Lines,
     Commands,
@@ -23,37 +24,65 @@ pub enum Program {
     Vectors,
 }
 
-fn answer(program: Program, out: &mut [u8], at: usize, line: &[u8]) -> usize {
+fn answer<W: Write>(
+    program: Program,
+    writer: &mut W,
+    out: &mut [u8],
+    at: usize,
+    line: &[u8],
+) -> std::io::Result<usize> {
     match program {
-        Program::Lines => lines::answer(out, at, line),
-        Program::Commands => commands::answer(out, at, line),
-        Program::Captures => captures::answer(out, at, line),
-        Program::Vectors => vectors::answer(out, at, line),
+        Program::Lines => Ok(lines::answer(out, at, line)),
+        Program::Commands => Ok(commands::answer(out, at, line)),
+        Program::Captures => captures::answer(writer, out, at, line),
+        Program::Vectors => Ok(vectors::answer(out, at, line)),
     }
 }
 
-fn turn(program: Program, buffer: &mut [u8], out: &mut [u8], before: Turn) -> Turn
-    ensures { result.left ≤ before.left - 1 }
+fn turn<R: Read, W: Write>(
+    program: Program,
+    reader: &mut R,
+    writer: &mut W,
+    buffer: &mut [u8],
+    out: &mut [u8],
+    before: Turn,
+) -> std::io::Result<Turn>
+    ensures { IfOk result (λ after. after.left ≤ before.left - 1) }
 {
-    let mut t = input::next_turn(buffer, out, before);
+    let mut t = input::next_turn(reader, writer, buffer, out, before)?;
     if t.left == 0 {
-        return t;
+        return Ok(t);
     }
     let line = t.line;
-    let e = answer(program, out, t.at, part::part(buffer, line.start, line.end));
-    t.at = output::end_line(out, e);
-    t
+    let e = answer(
+        program,
+        writer,
+        out,
+        t.at,
+        part::part(buffer, line.start, line.end),
+    )?;
+    t.at = output::end_line(writer, out, e)?;
+    Ok(t)
 }
 
-fn answer_all(program: Program, buffer: &mut [u8], out: &mut [u8]) {
+fn answer_all<R: Read, W: Write>(
+    program: Program,
+    reader: &mut R,
+    writer: &mut W,
+    buffer: &mut [u8],
+    out: &mut [u8],
+) -> std::io::Result<()> {
     let mut t = FIRST;
     while 0 < t.left {
-        t = turn(program, buffer, out, t);
+        t = turn(program, reader, writer, buffer, out, t)?;
     }
+    Ok(())
 }
 
-pub fn run(program: Program) {
+pub fn run(rt: &(impl Input + Print), program: Program) -> std::io::Result<()> {
     let mut buffer = io::large_buffer();
     let mut out = io::large_buffer();
-    answer_all(program, &mut buffer, &mut out);
+    let mut reader = rt.reader();
+    let mut writer = std::io::writer(rt);
+    answer_all(program, &mut reader, &mut writer, &mut buffer, &mut out)
 }

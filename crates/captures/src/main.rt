@@ -3,6 +3,6 @@
 
 use answering::Program;
 
-fn main() {
-    answering::run(Program::Captures);
+fn main(rt: HostRuntime) -> std::io::Result<()> {
+    answering::run(&rt, Program::Captures)
 }

@@ -3,6 +3,6 @@
 
 use showing::Mode;
 
-fn main() {
-    showing::run(Mode::Plain);
+fn main(rt: HostRuntime) -> std::io::Result<()> {
+    showing::run(&rt, Mode::Plain)
 }
