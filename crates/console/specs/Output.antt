@@ -30,3 +30,7 @@ pub record EndsLine (at : ℕ) (before : List ℕ) (next : ℕ) (after : List �
   pub end : ℕ
   pub puts : Puts (bytes "\n") at before end after
   pub begins : next ≡ cond (ltb (length before - 1024) end) 0 end
+
+-- what an LF leaves in the buffer, whether or not it could then be written
+abbrev pub LaysLineEnd : ℕ → List ℕ → List ℕ → Type 0
+LaysLineEnd at before after = (end : ℕ) × Puts (bytes "\n") at before end after

@@ -1,7 +1,9 @@
 // Texts and numbers laid into a lent buffer, one behind the other. Each call says where the next one goes; what has no room is left out.
-ghost use Rattle.std.specs.Prelude.{◌-◌, IfOk};
+ghost use Rattle.std.specs.Prelude.{◌-◌, IfOk, OnOk};
+ghost use Rattle.std.specs.Io.KnownBytes.{Appends};
 ghost use Rattle.text.specs.Gives.{Gives};
-ghost use Rattle.console.specs.Output.{Puts, PutsDecimal, PutsHex, EndsLine};
+ghost use Rattle.text.specs.Part.{part_of};
+ghost use Rattle.console.specs.Output.{Puts, PutsDecimal, PutsHex, EndsLine, LaysLineEnd};
 
 use std::io::Write;
 use text::{copy, part};
@@ -40,7 +42,9 @@ pub fn put_hex(out: &mut [u8], at: usize, n: u64) -> usize
 }
 
 // Writes the first n bytes of out.
-pub fn flush<W: Write>(writer: &mut W, out: &[u8], n: usize) -> std::io::Result<()> {
+pub fn flush<W: Write>(writer: &mut W, out: &[u8], n: usize) -> std::io::Result<()>
+    ensures { OnOk result (Appends (W.contents writer.old) (W.contents writer.new) (part_of out.now 0 n)) }
+{
     writer.write_all(part::part(out, 0, n))
 }
 
@@ -56,7 +60,8 @@ fn nearly_full(n: usize) -> usize
 
 // Ends the line at `at`, writes all where out is nearly full, and says where the next line begins.
 pub fn end_line<W: Write>(writer: &mut W, out: &mut [u8], at: usize) -> std::io::Result<usize>
-    ensures { IfOk result (λ next. EndsLine at out.old next out.new) }
+    ensures line { IfOk result (λ next. EndsLine at out.old next out.new) }
+    ensures laid { LaysLineEnd at out.old out.new }
 {
     let e = put(out, at, b"\n");
     if nearly_full(out.len()) < e {

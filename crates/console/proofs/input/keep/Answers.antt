@@ -1,4 +1,4 @@
-use Rattle.std.proofs.Common.{refl, ◌-◌, arith, length-set, rules}
+use Rattle.std.proofs.Common.{refl, arith, length-set, rules}
 use Rattle.text.proofs.Copying.{least_le}
 use Rattle.console.proofs.Laws.{behind}
 use Rattle.console.proofs.input.keep.Goals as goal
