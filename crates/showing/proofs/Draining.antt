@@ -22,6 +22,12 @@ some_taken : (s : State) (chunk : List ℕ) → 0 < length chunk → 0 < (feed d
 some_taken s [] h = absurd (omega arith)
 some_taken s (b ∷ bs) h = feed_some desk s b bs
 
+-- a turn that takes n bytes: some, none past the end, and what is left then brings the desk to `all`
+pub record Turn (chunk : List ℕ) (at : ℕ) (all : State) (d : Desk) (n : ℕ) : Type 0 where
+  pub most : at + n ≤ length chunk
+  pub some : 0 < n
+  pub on : after_bytes (state_of d) (drop (at + n) chunk) ≡ all
+
 module _ (chunk : List ℕ) (at : ℕ) (all : State) where
   pub turn_end : (d : Desk) → length chunk ≤ at → after_bytes (state_of d) (drop at chunk) ≡ all → state_of d ≡ all
   unfolding after
@@ -37,13 +43,13 @@ module _ (chunk : List ℕ) (at : ℕ) (all : State) where
     left_is : length rest ≡ length (drop at chunk)
     left_is = ap length is
 
-    pub turn_most : at ≤ length chunk → at + taken_by (answer_says r) ≤ length chunk
+    turn_most : at ≤ length chunk → at + taken_by (answer_says r) ≤ length chunk
     turn_most h = omega (arith, taken_is, feed_most desk (state_of d) rest, left_is, length-drop at chunk)
 
-    pub turn_some : at < length chunk → 0 < taken_by (answer_says r)
+    turn_some : at < length chunk → 0 < taken_by (answer_says r)
     turn_some h = omega (arith, taken_is, some_taken (state_of d) rest (omega (arith, left_is, length-drop at chunk)))
 
-    pub turn_on : after_bytes (state_of d) (drop at chunk) ≡ all → after_bytes (state_of d') (drop (at + taken_by (answer_says r)) chunk) ≡ all
+    turn_on : after_bytes (state_of d) (drop at chunk) ≡ all → after_bytes (state_of d') (drop (at + taken_by (answer_says r)) chunk) ≡ all
     turn_on inv =
         ap (after_bytes (state_of d')) (sym (drop-drop (taken_by (answer_says r)) at chunk))
         ∙ ap (λ (l : List ℕ). after_bytes (state_of d') (drop (taken_by (answer_says r)) l)) (sym is)
@@ -52,3 +58,11 @@ module _ (chunk : List ℕ) (at : ℕ) (all : State) where
         ∙ feed_rest desk (state_of d) rest
         ∙ ap (after_bytes (state_of d)) is
         ∙ inv
+
+    -- all that a turn does, where it takes n bytes
+    pub turned : (n : ℕ) → n ≡ taken_by (answer_says r) → at < length chunk → after_bytes (state_of d) (drop at chunk) ≡ all → Turn chunk at all d' n
+    turned n took h inv = record {
+      most = omega (arith, turn_most (omega arith));
+      some = omega (arith, turn_some h);
+      on = rw took (turn_on inv);
+    }
