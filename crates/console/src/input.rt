@@ -106,8 +106,8 @@ fn one_less(n: u64) -> u64
     n - 1
 }
 
-// The turn of the next line. At the end of the input, and where a read fails, all that stands in out
-// is written.
+// The turn of the next line. At the end of the input all that stands in out is written, and so it is
+// where a read fails.
 pub fn next_turn<R: Read, W: Write>(
     reader: &mut R,
     writer: &mut W,

@@ -43,7 +43,8 @@ pub fn put_hex(out: &mut [u8], at: usize, n: u64) -> usize
 
 // Writes the first n bytes of out.
 pub fn flush<W: Write>(writer: &mut W, out: &[u8], n: usize) -> std::io::Result<()>
-    ensures { OnOk result (Appends (W.contents writer.old) (W.contents writer.new) (part_of out.now 0 n)) }
+    ensures { OnOk result
+        (Appends (W.contents writer.old) (W.contents writer.new) (part_of out.now 0 n)) }
 {
     writer.write_all(part::part(out, 0, n))
 }
