@@ -1,5 +1,5 @@
-/* What firmware links of sim7000, for C99 or later and for C++. `rt lib` in crates/sim7000 writes out/libsim7000.a there: ELF, for x86-64 and its System V
- * calling convention.
+/* What firmware links of sim7000, for C99 or later and for C++. `rt lib` in crates/sim7000 writes
+ * out/libsim7000.a there: ELF, for x86-64 and its System V calling convention.
  *
  * A main loop takes five calls: sim7000_desk_open_echo writes a command and awaits its answers, sim7000_desk_feed takes the modem's bytes and tells
  * what each line is to that command, sim7000_read reads the line, sim7000_as_.. hands its values over in a struct, and sim7000_desk_reset gives a
