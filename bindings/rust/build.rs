@@ -10,7 +10,7 @@ fn main() {
         let asked = std::env::var("TARGET").unwrap_or_default();
         stop(&format!(
             "libsim7000.a is for x86-64 Linux, not for {}: \
-             build with --target x86_64-unknown-linux-gnu (bindings/test-rust does, on an Arm machine)",
+             build with --target x86_64-unknown-linux-gnu, as bindings/test-rust does",
             asked
         ));
     }
@@ -20,11 +20,8 @@ fn main() {
     let archive = folder.join("libsim7000.a");
     println!("cargo:rerun-if-changed={}", archive.display());
     if !archive.is_file() {
-        let here = folder.display();
-        stop(&format!(
-            "no libsim7000.a in {}: run 'rt lib' in crates/sim7000, or name its folder in SIM7000_LIB",
-            here
-        ));
+        let how = "run 'rt lib' in crates/sim7000, or name its folder in SIM7000_LIB";
+        stop(&format!("no libsim7000.a in {}: {}", folder.display(), how));
     }
     println!("cargo:rustc-link-search=native={}", folder.display());
     println!("cargo:rustc-link-lib=static=sim7000");
