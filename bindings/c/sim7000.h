@@ -1,5 +1,5 @@
-/* What firmware links of sim7000, for C99 or later and for C++. `rt staticlib sim7000` writes target/staticlib/libsim7000.a: ELF, for x86-64 and its System V
- * calling convention.
+/* What firmware links of sim7000, for C99 or later and for C++. `rt lib` in crates/sim7000 writes
+ * out/libsim7000.a there: ELF, for x86-64 and its System V calling convention.
  *
  * A main loop takes five calls: sim7000_desk_open_echo writes a command and awaits its answers, sim7000_desk_feed takes the modem's bytes and tells
  * what each line is to that command, sim7000_read reads the line, sim7000_as_.. hands its values over in a struct, and sim7000_desk_reset gives a
@@ -15,10 +15,10 @@
  * bytes too. What a call writes overlaps nothing else that it is lent: not out with a text of the request, not the text buffer with the chunk. What it only reads may
  * overlap: both texts of a request may be the same bytes.
  *
- * What it needs. Of the C library memcpy alone: no heap, no file, no clock. Some 40 kilobytes of code and constants and no writable data, so that
+ * What it needs. Of the C library memcpy alone: no heap, no file, no clock. Some 45 kilobytes of code and constants and no writable data, so that
  * calls on different desks and buffers may run at the same time; of calls on one desk each begins when the one before it has ended, and that is the
  * caller's to see to. For the stack count 1536 bytes a call of the archive, and some 200 more for an inline one: measured on a painted stack, over the stored
- * list of lines, the deepest was sim7000_feed with 1280, and bindings/test-c measures it again. The code uses the SSE registers and the 128 bytes below
+ * list of lines, the deepest was sim7000_feed with 1056, and bindings/test-c measures it again. The code uses the SSE registers and the 128 bytes below
  * the stack pointer, as the convention allows: think of both before calling it in an interrupt. Of <string.h> this header uses memcpy alone.
  *
  * Later versions add refusals, readers, events and requests: give a switch over an enum a default. */

@@ -1,5 +1,5 @@
-//! Finds libsim7000.a: in the folder that SIM7000_LIB names, whole or from here, else where `rt staticlib sim7000` writes it. Tells the crate what its compiler
-//! has.
+//! Finds libsim7000.a: in the folder that SIM7000_LIB names, whole or from here, else where `rt
+//! lib` in crates/sim7000 writes it. Tells the crate what its compiler has.
 use std::path::Path;
 use std::process::Command;
 
@@ -9,17 +9,19 @@ fn main() {
     if target("ARCH") != "x86_64" || target("POINTER_WIDTH") != "64" || target("OS") == "windows" {
         let asked = std::env::var("TARGET").unwrap_or_default();
         stop(&format!(
-            "libsim7000.a is for x86-64 Linux, not for {}: build with --target x86_64-unknown-linux-gnu (bindings/test does, on an Arm machine)",
+            "libsim7000.a is for x86-64 Linux, not for {}: \
+             build with --target x86_64-unknown-linux-gnu, as bindings/test-rust does",
             asked
         ));
     }
-    let named = std::env::var_os("SIM7000_LIB").unwrap_or_else(|| "../../target/staticlib".into());
+    let made = "../../crates/sim7000/out";
+    let named = std::env::var_os("SIM7000_LIB").unwrap_or_else(|| made.into());
     let folder = Path::new(env!("CARGO_MANIFEST_DIR")).join(named);
     let archive = folder.join("libsim7000.a");
     println!("cargo:rerun-if-changed={}", archive.display());
     if !archive.is_file() {
-        let here = folder.display();
-        stop(&format!("no libsim7000.a in {}: run 'rt staticlib sim7000' at the top of the repository, or name its folder in SIM7000_LIB", here));
+        let how = "run 'rt lib' in crates/sim7000, or name its folder in SIM7000_LIB";
+        stop(&format!("no libsim7000.a in {}: {}", folder.display(), how));
     }
     println!("cargo:rustc-link-search=native={}", folder.display());
     println!("cargo:rustc-link-lib=static=sim7000");

@@ -28,7 +28,7 @@ answer value refusal back (read p) = value (back p)
 answer value refusal back (refused k) = refusal k
 
 -- a contract that says what the answer is equal to
--- one answer: bytes::find, bytes::has_byte, bytes::count_byte, bytes::starts_with, bytes::is_text, bytes::ends_with, bytes::all_within, bytes::all_digits_lem
+-- one answer: bytes::find, bytes::has_byte, bytes::count_byte, bytes::starts_with, bytes::is_text, bytes::ends_with, bytes::all_within, bytes::all_digits
 -- one answer: code::place_in, copy::least, digit::value, digit::is_ascii_digit, field::field_start, field::field_count, line::check_line, line::worse_of, part::trim_start
 -- one answer: reader::FieldReader::ended, utf8::is_utf8
 pub one_equal : {R : Type 0} (a b p : R) → Gives p a → Gives p b → a ≡ b
