@@ -1,7 +1,7 @@
 // Lines of standard input, cut at LF in a lent buffer.
 ghost use Rattle.std.specs.Prelude.{◌+◌, ◌-◌, ◌≤◌, length, IfOk};
 ghost use Rattle.text.specs.Gives.{Gives};
-ghost use Rattle.console.specs.Input.{NextLineKeeps, NextTurnKeeps};
+ghost use Rattle.console.specs.Input.{NextLineKeeps, NextTurnKeeps, KeepsSize};
 
 use crate::output;
 use std::io::{Read, Write};
@@ -115,7 +115,8 @@ pub fn next_turn<R: Read, W: Write>(
     out: &[u8],
     turn: Turn,
 ) -> std::io::Result<Turn>
-    ensures { IfOk result (λ next. NextTurnKeeps turn next buffer.new) }
+    ensures turn { IfOk result (λ next. NextTurnKeeps turn next buffer.new) }
+    ensures size { KeepsSize buffer.old buffer.new }
 {
     let read = turn.rest;
     let cut = next_line(reader, buffer, read);
