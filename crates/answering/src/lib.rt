@@ -3,6 +3,7 @@
 #![tactic(auto)]
 
 ghost use Rattle.std.specs.Prelude.{◌-◌, ◌≤◌, IfOk};
+ghost use Rattle.console.specs.Input.{KeepsSize};
 
 use console::input::{FIRST, Turn};
 use console::{input, output};
@@ -47,7 +48,9 @@ fn turn<R: Read, W: Write>(
     out: &mut [u8],
     before: Turn,
 ) -> std::io::Result<Turn>
-    ensures { IfOk result (λ after. after.left ≤ before.left - 1) }
+    ensures left { IfOk result (λ after. after.left ≤ before.left - 1) }
+    ensures read { KeepsSize buffer.old buffer.new }
+    ensures laid { KeepsSize out.old out.new }
 {
     let mut t = input::next_turn(reader, writer, buffer, out, before)?;
     if t.left == 0 {

@@ -10,7 +10,7 @@ use text::{bytes, copy, part};
 
 // A turn of a program that answers line by line: the line's place in the buffer, that of what is read and not cut yet, where the answer goes in the
 // other buffer, and how many turns may follow. None may at the end of the input.
-#[derive(Drop)]
+#[derive(Clone, Copy)]
 pub struct Turn {
     pub line: Place,
     pub rest: Place,
@@ -29,7 +29,7 @@ pub const FIRST: Turn = Turn {
 };
 
 // The places of the line and of the rest, and whether there is a line.
-#[derive(Drop)]
+#[derive(Clone, Copy)]
 struct Next {
     line: Place,
     rest: Place,
@@ -52,7 +52,8 @@ fn keep(buffer: &mut [u8], start: usize, end: usize) -> usize
 // Reads behind the first n bytes, and says how many there are then.
 fn fill<R: Read>(reader: &mut R, buffer: &mut [u8], n: usize) -> std::io::Result<usize>
     requires { n ≤ length buffer.old }
-    ensures { IfOk result (λ end. (n ≤ end) × (end ≤ length buffer.new)) }
+    ensures end { IfOk result (λ end. (n ≤ end) × (end ≤ length buffer.new)) }
+    ensures size { KeepsSize buffer.old buffer.new }
 {
     let got = reader.read(&mut buffer[n..])?;
     Ok(n + got)
@@ -61,7 +62,8 @@ fn fill<R: Read>(reader: &mut R, buffer: &mut [u8], n: usize) -> std::io::Result
 // The next line, with what is read behind it in `rest`. A last line needs no LF. A line of more than half the buffer is handed out without some of its
 // bytes, and is then still as long as half the buffer.
 fn next_line<R: Read>(reader: &mut R, buffer: &mut [u8], rest: Place) -> std::io::Result<Next>
-    ensures { IfOk result (λ next. NextLineKeeps next buffer.new) }
+    ensures line { IfOk result (λ next. NextLineKeeps next buffer.new) }
+    ensures size { KeepsSize buffer.old buffer.new }
 {
     let mut start = rest.start;
     let mut end = rest.end;

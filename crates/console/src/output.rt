@@ -41,7 +41,7 @@ pub fn put_hex(out: &mut [u8], at: usize, n: u64) -> usize
     put(out, at, &digits[..k])
 }
 
-// Writes the first n bytes of out.
+// Writes the first n bytes of out. After an error it is not known how many of them were written.
 pub fn flush<W: Write>(writer: &mut W, out: &[u8], n: usize) -> std::io::Result<()>
     ensures { OnOk result
         (Appends (W.contents writer.old) (W.contents writer.new) (part_of out.now 0 n)) }

@@ -83,7 +83,7 @@ fn say<W: Write>(writer: &mut W, event: Event, ordinal: u32, line: &[u8]) -> std
     }
 }
 
-// Says what an answer tells, and answers how many bytes were taken.
+// Says what an answer tells, and answers how many bytes were taken. An error is the writer's.
 fn told<W: Write>(writer: &mut W, answer: FedAnswer, text: &[u8]) -> std::io::Result<usize>
     ensures { IfOk result (λ n. n ≡ taken_by (answer_says answer)) }
 {
@@ -103,7 +103,8 @@ fn told<W: Write>(writer: &mut W, answer: FedAnswer, text: &[u8]) -> std::io::Re
     }
 }
 
-// Feeds a chunk, event by event, until all its bytes are taken. The desk is a local, lent to the call that alters it.
+// Feeds a chunk, event by event, until all its bytes are taken. The desk is a local, lent to the
+// call that alters it. An error is the writer's, and the desk then goes with it.
 fn drain<W: Write>(writer: &mut W, desk: Desk, chunk: &[u8]) -> std::io::Result<Desk>
     ensures { IfOk result (λ d. state_of d ≡ after_bytes (state_of desk) chunk.now) }
 {
