@@ -1,4 +1,4 @@
-// Lines of standard input, cut at LF in a lent buffer.
+// Lines of a lent reader, cut at LF in a lent buffer.
 ghost use Rattle.std.specs.Prelude.{◌+◌, ◌-◌, ◌≤◌, length, IfOk};
 ghost use Rattle.text.specs.Gives.{Gives};
 ghost use Rattle.console.specs.Input.{NextLineKeeps, NextTurnKeeps, KeepsSize};

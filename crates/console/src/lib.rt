@@ -1,4 +1,5 @@
-// What the programs share: lines cut from standard input, and lines laid into a buffer that is written when it is nearly full.
+// What the programs share: lines cut from a lent reader, and lines laid into a buffer that is
+// written when it is nearly full.
 #![tactic(auto)]
 
 pub mod input;

@@ -36,14 +36,10 @@ pub returns-then-count-ge15 : goal.returns-then-count-ge15
 returns-then-count-ge15 c = search many
 
 pub overflow_mul-m : goal.overflow_mul-m
-overflow_mul-m c =
-    let l = c.loop-i in
-    omega (arith, fewer l.m l.count l.invariant.3 c.if-count-ge15.false)
+overflow_mul-m c = omega (arith, fewer c.loop-i.m c.loop-i.count c.loop-i.invariant.3 c.if-count-ge15.false)
 
 pub overflow_add-m : goal.overflow_add-m
-overflow_add-m c =
-    let l = c.loop-i in
-    omega (arith, fewer l.m l.count l.invariant.3 c.if-count-ge15.false)
+overflow_add-m c = omega (arith, fewer c.loop-i.m c.loop-i.count c.loop-i.invariant.3 c.if-count-ge15.false)
 
 pub loop-i-preserved : goal.loop-i-preserved
 loop-i-preserved c = (search rules, search rules, search rules, search grown, search digit)
