@@ -1,4 +1,6 @@
 // AT+HTTPTOFS: a download to the modem's file system.
+#![tactic(auto, unfolding(text::specs::Line::checked, text::specs::Reading::only, crate::specs::Httptofs::download_of, crate::specs::Httptofs::httptofs_text))]
+
 ghost use Rattle.std.specs.Prelude.{◌≡◌, ◌+◌, ◌≤◌, length, drop};
 ghost use Rattle.text.specs.Gives.{Gives};
 ghost use Rattle.text.specs.Code.{code_in};
@@ -11,9 +13,8 @@ ghost use Rattle.at_command.specs.Request.{command_of, download_to_file_system};
 ghost use Rattle.at_command.specs.says.Httptofs.{says, status_number, info_says, DownloadInfoKeeps, SuccessKeeps};
 ghost use Rattle.at_command.specs.says.Request.{EncodeKeeps};
 
-use crate::request::Encoded;
 use crate::write;
-use text::number::ParsedU64;
+use text::refusal::Refusal;
 use text::{bytes, line, number, part};
 
 #[derive(Clone, Copy)]
@@ -40,19 +41,6 @@ pub struct DownloadInfo {
     pub data_length: u64,
 }
 
-#[derive(Clone, Copy)]
-pub enum DownloadInfoAnswer {
-    Value(DownloadInfo),
-    Refused(u8),
-}
-
-// Whether a download succeeded, or the code of why not.
-#[derive(Clone, Copy)]
-pub enum Success {
-    Ok,
-    Err(StatusCode),
-}
-
 impl StatusCode {
     // The code's number, 0 for OtherErrors.
     pub fn number(self) -> u16
@@ -76,13 +64,14 @@ impl StatusCode {
         }
     }
 
-    pub fn success(self) -> Success
+    // Whether a download succeeded, or the code of why not.
+    pub fn success(self) -> Result<(), StatusCode>
         ensures { SuccessKeeps self result }
     {
-        if self.number() == 200 {
-            return Success::Ok;
+        match self {
+            StatusCode::Ok => Ok(()),
+            failure => Err(failure),
         }
-        Success::Err(self)
     }
 }
 
@@ -141,10 +130,7 @@ fn status_of(t: &[u8]) -> StatusCode
 fn length_of(t: &[u8]) -> u64
     ensures { result ≡ or_zero (unsigned 10 18446744073709551615 (after 44 t.now)) }
 {
-    match number::parse_u64(part::after_byte(t, b',')) {
-        ParsedU64::Is(n) => n,
-        ParsedU64::Not => 0,
-    }
+    number::parse_u64(part::after_byte(t, b',')).unwrap_or(0)
 }
 
 fn download(t: &[u8]) -> DownloadInfo
@@ -157,22 +143,19 @@ fn download(t: &[u8]) -> DownloadInfo
 }
 
 impl DownloadInfo {
-    pub(crate) fn from_checked(line: &[u8]) -> DownloadInfoAnswer
+    pub(crate) fn from_checked(line: &[u8]) -> Result<DownloadInfo, Refusal>
         ensures { says result ≡ httptofs_text line.now }
     {
         if !bytes::starts_with(line, b"+HTTPTOFS: ") {
-            return DownloadInfoAnswer::Refused(3);
+            return Err(Refusal::NotThisLine);
         }
-        DownloadInfoAnswer::Value(download(part::skip(line, 11)))
+        Ok(download(part::skip(line, 11)))
     }
 
-    pub fn from_line(line: &[u8]) -> DownloadInfoAnswer
+    pub fn from_line(line: &[u8]) -> Result<DownloadInfo, Refusal>
         ensures { DownloadInfoKeeps line.now result }
     {
-        let k = line::check_line(line);
-        if k != 0 {
-            return DownloadInfoAnswer::Refused(k);
-        }
+        line::check_line(line)?;
         DownloadInfo::from_checked(line)
     }
 }
@@ -182,17 +165,14 @@ impl DownloadInfo {
 pub struct DownloadToFileSystem;
 
 impl DownloadToFileSystem {
-    pub fn encode(self, url: &[u8], file_path: &[u8], out: &mut [u8]) -> Encoded
+    pub fn encode(self, url: &[u8], file_path: &[u8], out: &mut [u8]) -> Result<usize, Refusal>
         ensures { EncodeKeeps (download_to_file_system url.now file_path.now) out.old result out.new }
     {
-        let refusal = write::refusal(url, 64, file_path, 32);
-        if 0 < refusal {
-            return Encoded::Refused(refusal);
-        }
+        write::check_texts(url, 64, file_path, 32)?;
         if out.len() < 14 + write::quoted_size(url) + write::quoted_size(file_path) {
-            return Encoded::Refused(7);
+            return Err(Refusal::NoRoom);
         }
-        Encoded::Size(lay_download(url, file_path, out))
+        Ok(lay_download(url, file_path, out))
     }
 }
 

@@ -12,13 +12,7 @@ use crate::cpsi::GetSystemInfo;
 use crate::csq::GetSignalQuality;
 use crate::gsn::GetImei;
 use crate::httptofs::DownloadToFileSystem;
-
-// The size of the command that was written, or the refusal: 5, 12, 6 or 7.
-#[derive(Clone, Copy)]
-pub enum Encoded {
-    Size(usize),
-    Refused(u8),
-}
+use text::refusal::Refusal;
 
 // The kinds of response, in the order of trial.
 #[derive(Clone, Copy)]
@@ -149,9 +143,10 @@ impl Request {
         }
     }
 
+    // The size of the command that was written, or the refusal: 5, 12, 6 or 7.
     // SetManualOperator's plmn, SynchronizeNetworkTime's ntp_server and DownloadToFileSystem's url are `first`, and the last one's
     // file_path is `second`; the other requests have no texts.
-    pub fn encode(self, first: &[u8], second: &[u8], out: &mut [u8]) -> Encoded
+    pub fn encode(self, first: &[u8], second: &[u8], out: &mut [u8]) -> Result<usize, Refusal>
         ensures { EncodeKeeps (asked self first.now second.now) out.old result out.new }
     {
         match self {
@@ -163,17 +158,13 @@ impl Request {
             Request::SetAutomaticOperator => SetAutomaticOperator.encode(out),
             Request::GetSystemInfo => GetSystemInfo.encode(out),
             Request::SynchronizeNetworkTime { timezone, cid } => {
-                SynchronizeNetworkTime {
-                    timezone: timezone,
-                    cid: cid,
-                }
-                .encode(first, out)
+                SynchronizeNetworkTime { timezone, cid }.encode(first, out)
             }
             Request::Execute => Execute.encode(out),
             Request::DownloadToFileSystem => DownloadToFileSystem.encode(first, second, out),
             Request::GetSmsMessageFormat => GetSmsMessageFormat.encode(out),
             Request::SetSmsMessageFormat(format) => SetSmsMessageFormat(format).encode(out),
-            Request::ReadSms { index } => ReadSms { index: index }.encode(out),
+            Request::ReadSms { index } => ReadSms { index }.encode(out),
         }
     }
 }
