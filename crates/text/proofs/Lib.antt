@@ -22,6 +22,7 @@ pub mod Parts
 pub mod ReaderPlaces
 pub mod ReaderStarts
 pub mod Readings
+pub mod Refusals
 pub mod Signs
 pub mod SplitsOnce
 pub mod Tests

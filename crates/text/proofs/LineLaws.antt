@@ -1,8 +1,11 @@
 -- The line check: what `check_line` gives, the two ways on of a reader that calls it first, and which refusals are the reader's own.
-use Rattle.std.proofs.Common.{◌≡◌, ℕ, ◌<◌, ◌≤◌, Bool, true, false, cond, eqb, ltb, List, length, refl, arith, le-ltb, lt-ltb, eq-eqb, ne_eqb, eqb-true}
+use Rattle.std.proofs.Common.{◌≡◌, ℕ, ◌<◌, ◌≤◌, Bool, true, false, cond, eqb, ltb, List, length, refl, sym, ap, ◌∙◌, arith, le-ltb, lt-ltb, ne_eqb, eqb-true, Result, Ok, Err}
 use Rattle.text.specs.Line.{line_check, checked}
 use Rattle.text.specs.Reading.{Reading, refused}
 use Rattle.text.specs.Utf8.{utf8}
+use Rattle.text.specs.says.Refusal.{number_of, refusal_said}
+use Rattle.text.specs.declared.refusal.Refusal.{Refusal}
+use Rattle.text.proofs.Refusals.{some_refusal}
 
 module _ (s : List ℕ) where
   pub check_long : 256 < length s → 1 ≡ line_check s
@@ -18,15 +21,15 @@ module _ (s : List ℕ) where
     unfolding line_check
     check_bad h = rw (le-ltb _ _ fits, ← is, h)
 
--- `let k = check_line(s); if k != 0 { return refused k } bare(s)`: k refuses the line, or the bare reader's answer q is the checked one's
-module _ {A : Type 0} (reader : List ℕ → Reading A) (s : List ℕ) (k : ℕ) (is : k ≡ line_check s) where
-  pub line_bad : (k ≡ 0 → ⊥) → refused k ≡ checked reader s
+-- `check_line(s)?; bare(s)`: the check's answer r refuses the line, or the bare reader's answer q is the checked one's
+module _ {A : Type 0} (reader : List ℕ → Reading A) (s : List ℕ) (r : Result Unit Refusal) (is : refusal_said r ≡ line_check s) where
+  pub line_bad : (k : Refusal) → r ≡ Err k → refused (number_of k) ≡ checked reader s
   unfolding checked
-  line_bad h = rw (← is, ne_eqb k 0 h)
+  line_bad k e = let i : line_check s ≡ number_of k = sym is ∙ ap refusal_said e in rw (i, ne_eqb (number_of k) 0 (some_refusal k))
 
-  pub line_good : (q : Reading A) → k ≡ 0 → q ≡ reader s → q ≡ checked reader s
+  pub line_good : (v : Unit) (q : Reading A) → r ≡ Ok v → q ≡ reader s → q ≡ checked reader s
   unfolding checked
-  line_good q h e = rw (← is, eq-eqb k 0 h) e
+  line_good v q e h = let i : line_check s ≡ 0 = sym is ∙ ap refusal_said e in rw i h
 
 pub ruleset lines = (line_bad, line_good)
 

@@ -1,6 +1,6 @@
 -- The steps of a reader: what the code tested, and what it learnt of a call, picks the case of its paper definition. Each premise is spelled
 -- as the code's test or the callee's promise has it, so that `search reader` closes a reader's answers. Assumes nothing.
-use Rattle.std.proofs.Common.{◌≡◌, ℕ, ◌<◌, ◌≤◌, Bool, true, false, cond, not, eqb, leb, List, [], ◌∷◌, length, sym, refl, ap, ◌∙◌, subst, eq-eqb, ne_eqb, eqb-true, le-leb}
+use Rattle.std.proofs.Common.{◌≡◌, ℕ, ◌<◌, ◌≤◌, Bool, true, false, cond, not, eqb, leb, List, [], ◌∷◌, length, sym, refl, ap, ◌∙◌, subst, eq-eqb, ne_eqb, eqb-true, le-leb, Result, Ok, Err}
 use mathlib.Core.Option.{Option, none, some}
 use borrow.Author.Tests.{lt-leb, not-true, not-false}
 use Rattle.text.proofs.Tests.{never}
@@ -8,6 +8,8 @@ use Rattle.text.specs.Bytes.{same, has}
 use Rattle.text.specs.Part.{before, after, trimmed}
 use Rattle.text.specs.Field.{fields, nth}
 use Rattle.text.specs.Reading.{Reading, read, refused, refusal_in, present, only, either, need, need_else, sized, fitting, mapped, each, worse, first_of}
+use Rattle.text.specs.says.Refusal.{number_of, reading_said}
+use Rattle.text.specs.declared.refusal.Refusal.{Refusal}
 
 module _ {A : Type 0} where
   pub only_not : (t x : Bool) (r : Reading A) → x ≡ t → x ≡ false → refused 3 ≡ only t r
@@ -223,14 +225,10 @@ module _ {A : Type 0} where
   pub first_whole : (j : ℕ) (rs : List (Reading A)) → first_of j (first_of 3 rs ∷ []) ≡ first_of j rs
   first_whole j rs = in_trial j 3 rs ∙ ap (λ (n : ℕ). first_of n rs) (worse_three j)
 
--- the same for a reader whose answer r is of an enum R, which f says on paper: given f, a constructor and how it is said
-module _ {R A B : Type 0} (f : R → Reading A) where
-  module _ {W : Type 0} (con : W → R) (val : W → A) (is : (v : W) → f (con v) ≡ read (val v)) where
-    pub tried : (j : ℕ) (g : A → B) (x : Reading A) (rs : List (Reading B)) (r : R) (v : W) (q : Reading B)
-        → f r ≡ x → r ≡ con v → q ≡ read (g (val v)) → q ≡ first_of j (mapped g x ∷ rs)
-    tried j g x rs r v q h e z = z ∙ first_is j (mapped g x) rs (g (val v)) (mapped_read g x (val v) (sym (is v) ∙ ap f (sym e) ∙ h))
+-- the same for a reader whose answer r has a value that f says on paper
+module _ {V A B : Type 0} (f : V → A) (j : ℕ) (g : A → B) (x : Reading A) (rs : List (Reading B)) (r : Result V Refusal) where
+  pub tried : (v : V) (q : Reading B) → reading_said f r ≡ x → r ≡ Ok v → q ≡ read (g (f v)) → q ≡ first_of j (mapped g x ∷ rs)
+  tried v q h e z = z ∙ first_is j (mapped g x) rs (g (f v)) (mapped_read g x (f v) (ap (reading_said f) (sym e) ∙ h))
 
-  module _ (con : ℕ → R) (is : (k : ℕ) → f (con k) ≡ refused k) where
-    pub tried_not : (j : ℕ) (g : A → B) (x : Reading A) (rs : List (Reading B)) (r : R) (k i : ℕ) (q : Reading B)
-        → f r ≡ x → r ≡ con k → i ≡ worse j k → q ≡ first_of i rs → q ≡ first_of j (mapped g x ∷ rs)
-    tried_not j g x rs r k i q h e w z = first_else j (mapped g x) rs k i q (mapped_refused g x k (sym (is k) ∙ ap f (sym e) ∙ h)) w z
+  pub tried_not : (k : Refusal) (i : ℕ) (q : Reading B) → reading_said f r ≡ x → r ≡ Err k → i ≡ worse j (number_of k) → q ≡ first_of i rs → q ≡ first_of j (mapped g x ∷ rs)
+  tried_not k i q h e w z = first_else j (mapped g x) rs (number_of k) i q (mapped_refused g x (number_of k) (ap (reading_said f) (sym e) ∙ h)) w z

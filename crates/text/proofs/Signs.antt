@@ -1,14 +1,13 @@
 -- What stands before the digits: a plus, a minus or nothing. And that a number fits the type that holds its bound, on both sides of zero.
-use Rattle.std.proofs.Common.{◌≡◌, ℕ, zero, suc, ◌+◌, ◌-◌, ◌^◌, ◌≤◌, true, false, T, ltb, List, [], ◌∷◌, get_or, drop, ℤ, pos, negsuc, ◌-ℤ◌, sym, refl, ap, ◌∙◌, lt_of_le_of_lt, zero-add, arith, ltb→lt, pow_pos, to_z-of_z, Fits, SFits, to_z, of_z, rules, eq-eqb, ne_eqb}
+use Rattle.std.proofs.Common.{◌≡◌, ℕ, zero, suc, ◌+◌, ◌-◌, ◌^◌, ◌≤◌, true, false, T, ltb, List, [], ◌∷◌, get_or, drop, ℤ, pos, negsuc, ◌-ℤ◌, sym, refl, ap, ◌∙◌, lt_of_le_of_lt, zero-add, arith, ltb→lt, pow_pos, to_z-of_z, SFits, to_z, of_z, eq-eqb, ne_eqb, Some, None}
 use mathlib.Core.Option.{Option, none, some, map}
 use mir.Facts.{to_z_pos}
 use mir.Syntax.{Width}
-use mir.Val.{bits, hbits}
+use mir.Val.{hbits}
 use Rattle.text.specs.Bytes.{starts_with}
 use Rattle.text.specs.Number.{magnitude, unsigned, negative, signed}
-use Rattle.text.specs.says.Number.{says_u64}
-use Rattle.text.specs.declared.number.ParsedU64.{ParsedU64}
-use Rattle.text.specs.declared.number.ParsedU64.TheVariants.{Is, Not}
+use Rattle.std.specs.Prelude as Std
+use Rattle.text.specs.says.Refusal.{option_said}
 use Rattle.text.proofs.Numbers.{magnitude_le, unsigned_le, negative_fits, signed_fits}
 
 -- the sign b, by the first byte x as `first` gives it
@@ -46,52 +45,39 @@ module _ (w : Width) (m : ℕ) (b : m ≤ 2 ^ hbits w) (h : m ≡ 0 → ⊥) whe
   pub minus_is : to_z w (of_z w (negsuc 0 -ℤ to_z w (m - 1))) ≡ negative m
   minus_is = to_z-of_z minus_fits ∙ below_zero w m b h
 
--- what the answer of the reader below says of the answer made of it
-pub is_read : (o : Option ℕ) (r : ParsedU64) (n : ℕ) → says_u64 r ≡ o → r ≡ Is n → some n ≡ o
-is_read o r n h e = ap says_u64 (sym e) ∙ h
-
-pub is_none : (o : Option ℕ) (r : ParsedU64) → says_u64 r ≡ o → r ≡ Not → none ≡ o
-is_none o r h e = ap says_u64 (sym e) ∙ h
-
 -- what was read, n, where the answer r says so, is at most the bound, and fits a type that holds the bound
-module _ (base max n : ℕ) (s : List ℕ) (r : ParsedU64) (e : r ≡ Is n) where
-  pub digits_le : says_u64 r ≡ magnitude base max s → n ≤ max
-  digits_le h = magnitude_le base max n s (sym h ∙ ap says_u64 e)
+module _ (base max n : ℕ) (s : List ℕ) (r : Std.Option ℕ) (e : r ≡ Some n) where
+  pub digits_le : option_said r ≡ magnitude base max s → n ≤ max
+  digits_le h = magnitude_le base max n s (sym h ∙ ap option_said e)
 
-  plain_le : says_u64 r ≡ unsigned base max s → n ≤ max
-  plain_le h = unsigned_le base max n s (sym h ∙ ap says_u64 e)
+  plain_le : option_said r ≡ unsigned base max s → n ≤ max
+  plain_le h = unsigned_le base max n s (sym h ∙ ap option_said e)
 
-  pub plain_fits : (w : Width) → says_u64 r ≡ unsigned base max s → T (ltb max (2 ^ bits w)) → Fits w n
-  plain_fits w h t = record { fits = lt_of_le_of_lt (plain_le h) (ltb→lt _ _ t) }
-
-  pub plain_sfits : (w : Width) → says_u64 r ≡ unsigned base max s → T (ltb max (2 ^ hbits w)) → SFits w (pos n)
+  pub plain_sfits : (w : Width) → option_said r ≡ unsigned base max s → T (ltb max (2 ^ hbits w)) → SFits w (pos n)
   plain_sfits w h t = record { sfits = lt_of_le_of_lt (plain_le h) (ltb→lt _ _ t) }
 
--- `parse_u8`, `u16_in` and `u32_in`: the answer of the reader below, in a smaller type
-pub ruleset narrowed = (rules, plain_fits, is_read, is_none)
-
 -- `parse_i32`, after a minus and without one
-module _ (base max x : ℕ) (s : List ℕ) (first : x ≡ get_or s 0 0) (r : ParsedU64) where
-  module _ (minus : x ≡ 45) (h : says_u64 r ≡ magnitude base (max + 1) (drop 1 s)) where
-    minus_says : (a : ParsedU64) → r ≡ a → map negative (says_u64 a) ≡ signed base max s
+module _ (base max x : ℕ) (s : List ℕ) (first : x ≡ get_or s 0 0) (r : Std.Option ℕ) where
+  module _ (minus : x ≡ 45) (h : option_said r ≡ magnitude base (max + 1) (drop 1 s)) where
+    minus_says : (a : Std.Option ℕ) → r ≡ a → map negative (option_said a) ≡ signed base max s
     unfolding signed
     minus_says a e = rw (first_is 44 s (sym first ∙ minus), sym h, e)
 
-    pub minus_miss : r ≡ Not → none ≡ signed base max s
-    minus_miss e = minus_says Not e
+    pub minus_miss : r ≡ None → none ≡ signed base max s
+    minus_miss e = minus_says None e
 
-    pub minus_read : (w : Width) (n : ℕ) (z : ℤ) → T (ltb max (2 ^ hbits w)) → r ≡ Is n → z ≡ negative n → some (to_z w (of_z w z)) ≡ signed base max s
+    pub minus_read : (w : Width) (n : ℕ) (z : ℤ) → T (ltb max (2 ^ hbits w)) → r ≡ Some n → z ≡ negative n → some (to_z w (of_z w z)) ≡ signed base max s
     minus_read w n z t e q =
-        let g : some (negative n) ≡ signed base max s = minus_says (Is n) e in
+        let g : some (negative n) ≡ signed base max s = minus_says (Some n) e in
         rw (q, to_z-of_z (signed_fits w max (negative n) (ltb→lt _ _ t) base s (sym g))) g
 
-  module _ (plain : x ≡ 45 → ⊥) (h : says_u64 r ≡ unsigned base max s) where
-    plain_says : (a : ParsedU64) → r ≡ a → map pos (says_u64 a) ≡ signed base max s
+  module _ (plain : x ≡ 45 → ⊥) (h : option_said r ≡ unsigned base max s) where
+    plain_says : (a : Std.Option ℕ) → r ≡ a → map pos (option_said a) ≡ signed base max s
     unfolding signed
     plain_says a e = rw (first_not 45 s (λ k. plain (first ∙ k)), sym h, e)
 
-    pub plain_miss : r ≡ Not → none ≡ signed base max s
-    plain_miss e = plain_says Not e
+    pub plain_miss : r ≡ None → none ≡ signed base max s
+    plain_miss e = plain_says None e
 
-    pub plain_read : (w : Width) (n : ℕ) → T (ltb max (2 ^ hbits w)) → r ≡ Is n → some (to_z w n) ≡ signed base max s
-    plain_read w n t e = rw (to_z_pos w (plain_sfits base max n s r e w h t).sfits) (plain_says (Is n) e)
+    pub plain_read : (w : Width) (n : ℕ) → T (ltb max (2 ^ hbits w)) → r ≡ Some n → some (to_z w n) ≡ signed base max s
+    plain_read w n t e = rw (to_z_pos w (plain_sfits base max n s r e w h t).sfits) (plain_says (Some n) e)

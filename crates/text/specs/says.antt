@@ -1,5 +1,5 @@
 pub mod Class
 pub mod Handed
-pub mod Number
 pub mod Part
 pub mod Reader
+pub mod Refusal

@@ -12,4 +12,5 @@ pub mod line;
 pub mod number;
 pub mod part;
 pub mod reader;
+pub mod refusal;
 pub mod utf8;

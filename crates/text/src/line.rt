@@ -1,29 +1,20 @@
 // The check that every line passes first.
-ghost use Rattle.text.specs.Gives.{Gives};
-ghost use Rattle.text.specs.Reading.{worse};
 ghost use Rattle.text.specs.Line.{line_check};
+ghost use Rattle.text.specs.says.Refusal.{ChecksKeep};
 
+use crate::refusal::Refusal;
 use crate::utf8;
 
-// The number of the refusal that every reader gives s: 1, it has more than 256 bytes; 2, it is not UTF-8; 0, none.
-pub fn check_line(s: &[u8]) -> u8
-    ensures { Gives (line_check s.now) result }
+// What every reader refuses: a line of more than 256 bytes, then one that is not UTF-8.
+#[tactic(auto, using(crate::proofs::LineLaws::check_long, crate::proofs::LineLaws::check_good, crate::proofs::LineLaws::check_bad))]
+pub fn check_line(s: &[u8]) -> Result<(), Refusal>
+    ensures { ChecksKeep (line_check s.now) result }
 {
     if 256 < s.len() {
-        return 1;
+        return Err(Refusal::LineTooLong);
     }
-    if utf8::is_utf8(s) {
-        return 0;
+    if !utf8::is_utf8(s) {
+        return Err(Refusal::NotUtf8);
     }
-    2
-}
-
-// The refusal of two readers tried one after the other: the first's, unless that is 3.
-pub fn worse_of(j: u8, k: u8) -> u8
-    ensures { Gives (worse j k) result }
-{
-    if j == 3 {
-        return k;
-    }
-    j
+    Ok(())
 }

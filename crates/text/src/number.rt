@@ -1,41 +1,10 @@
 // Whole numbers, one reader per width over one reader of digits.
-ghost use Rattle.std.specs.Prelude.{◌≡◌, ◌≤◌, drop};
+ghost use Rattle.std.specs.Prelude.{◌≡◌, ◌≤◌, ℕ, drop};
 ghost use Rattle.std.proofs.Math.Option.{some};
 ghost use Rattle.text.specs.Number.{digit_value, below, magnitude, unsigned, negative, signed};
-ghost use Rattle.text.specs.says.Number.{U8Keeps, U16Keeps, U32Keeps, U64Keeps, I32Keeps};
+ghost use Rattle.text.specs.says.Refusal.{option_mapped, ParsedKeeps};
 
 use crate::{bytes, digit};
-
-// A number that was read, or none.
-#[derive(Clone, Copy)]
-pub enum ParsedU8 {
-    Is(u8),
-    Not,
-}
-
-#[derive(Clone, Copy)]
-pub enum ParsedU16 {
-    Is(u16),
-    Not,
-}
-
-#[derive(Clone, Copy)]
-pub enum ParsedU32 {
-    Is(u32),
-    Not,
-}
-
-#[derive(Clone, Copy)]
-pub enum ParsedU64 {
-    Is(u64),
-    Not,
-}
-
-#[derive(Clone, Copy)]
-pub enum ParsedI32 {
-    Is(i32),
-    Not,
-}
 
 // What a hexadecimal digit is worth, 16 where the byte is none.
 fn digit_value(x: u8) -> u8
@@ -52,12 +21,12 @@ fn digit_value(x: u8) -> u8
 }
 
 // The number of at most max whose digits are the bytes from `from` on.
-fn magnitude(s: &[u8], from: usize, base: u64, max: u64) -> ParsedU64
+fn magnitude(s: &[u8], from: usize, base: u64, max: u64) -> Option<u64>
     requires { (1 ≤ base) × (base ≤ 16) }
-    ensures { U64Keeps (magnitude base max (drop from s.now)) result }
+    ensures { ParsedKeeps (magnitude base max (drop from s.now)) result }
 {
     if s.len() <= from {
-        return ParsedU64::Not;
+        return None;
     }
     let limit = max / base;
     let mut i = from;
@@ -65,26 +34,26 @@ fn magnitude(s: &[u8], from: usize, base: u64, max: u64) -> ParsedU64
     while i < s.len() {
         let d = digit_value(s[i]) as u64;
         if base <= d {
-            return ParsedU64::Not;
+            return None;
         }
         // n * base must not pass max
         if limit < n {
-            return ParsedU64::Not;
+            return None;
         }
         let m = n * base;
         if max - m < d {
-            return ParsedU64::Not;
+            return None;
         }
         n = m + d;
         i += 1;
     }
-    ParsedU64::Is(n)
+    Some(n)
 }
 
 // The same after an optional plus.
-fn unsigned(s: &[u8], base: u64, max: u64) -> ParsedU64
+fn unsigned(s: &[u8], base: u64, max: u64) -> Option<u64>
     requires { (1 ≤ base) × (base ≤ 16) }
-    ensures { U64Keeps (unsigned base max s.now) result }
+    ensures { ParsedKeeps (unsigned base max s.now) result }
 {
     if bytes::byte_at(s, 0) == b'+' {
         return magnitude(s, 1, base, max);
@@ -92,63 +61,112 @@ fn unsigned(s: &[u8], base: u64, max: u64) -> ParsedU64
     magnitude(s, 0, base, max)
 }
 
-pub fn parse_u8(s: &[u8]) -> ParsedU8
-    ensures { U8Keeps (unsigned 10 255 s.now) result }
-{
-    match unsigned(s, 10, 255) {
-        ParsedU64::Is(n) => ParsedU8::Is(n as u8),
-        ParsedU64::Not => ParsedU8::Not,
+// A type that a number of up to its greatest fits.
+trait Width: Sized {
+    ghost value: { Self → ℕ };
+
+    ghost MAX: { ℕ };
+
+    const MAX: u64;
+
+    fn narrow(n: u64) -> Self
+        requires { n ≤ MAX }
+        ensures { value result ≡ n };
+}
+
+impl Width for u8 {
+    ghost value = { λ n. n };
+
+    ghost MAX = { 255 };
+
+    const MAX: u64 = 255;
+
+    fn narrow(n: u64) -> u8 {
+        n as u8
     }
 }
 
-fn u16_in(s: &[u8], base: u64) -> ParsedU16
+impl Width for u16 {
+    ghost value = { λ n. n };
+
+    ghost MAX = { 65535 };
+
+    const MAX: u64 = 65535;
+
+    fn narrow(n: u64) -> u16 {
+        n as u16
+    }
+}
+
+impl Width for u32 {
+    ghost value = { λ n. n };
+
+    ghost MAX = { 4294967295 };
+
+    const MAX: u64 = 4294967295;
+
+    fn narrow(n: u64) -> u32 {
+        n as u32
+    }
+}
+
+impl Width for u64 {
+    ghost value = { λ n. n };
+
+    ghost MAX = { 18446744073709551615 };
+
+    const MAX: u64 = 18446744073709551615;
+
+    fn narrow(n: u64) -> u64 {
+        n
+    }
+}
+
+// An unsigned number that fits the type.
+fn parse<T: Width>(s: &[u8], base: u64) -> Option<T>
     requires { (1 ≤ base) × (base ≤ 16) }
-    ensures { U16Keeps (unsigned base 65535 s.now) result }
+    ensures { option_mapped T.value result ≡ unsigned base T.MAX s.now }
 {
-    match unsigned(s, base, 65535) {
-        ParsedU64::Is(n) => ParsedU16::Is(n as u16),
-        ParsedU64::Not => ParsedU16::Not,
+    match unsigned(s, base, T::MAX) {
+        Some(n) => Some(T::narrow(n)),
+        None => None,
     }
 }
 
-fn u32_in(s: &[u8], base: u64) -> ParsedU32
-    requires { (1 ≤ base) × (base ≤ 16) }
-    ensures { U32Keeps (unsigned base 4294967295 s.now) result }
+pub fn parse_u8(s: &[u8]) -> Option<u8>
+    ensures { ParsedKeeps (unsigned 10 255 s.now) result }
 {
-    match unsigned(s, base, 4294967295) {
-        ParsedU64::Is(n) => ParsedU32::Is(n as u32),
-        ParsedU64::Not => ParsedU32::Not,
-    }
+    parse(s, 10)
 }
 
-pub fn parse_u16(s: &[u8]) -> ParsedU16
-    ensures { U16Keeps (unsigned 10 65535 s.now) result }
+pub fn parse_u16(s: &[u8]) -> Option<u16>
+    ensures { ParsedKeeps (unsigned 10 65535 s.now) result }
 {
-    u16_in(s, 10)
+    parse(s, 10)
 }
 
-pub fn parse_u32(s: &[u8]) -> ParsedU32
-    ensures { U32Keeps (unsigned 10 4294967295 s.now) result }
+pub fn parse_u32(s: &[u8]) -> Option<u32>
+    ensures { ParsedKeeps (unsigned 10 4294967295 s.now) result }
 {
-    u32_in(s, 10)
+    parse(s, 10)
 }
 
-pub fn parse_u64(s: &[u8]) -> ParsedU64
-    ensures { U64Keeps (unsigned 10 18446744073709551615 s.now) result }
+pub fn parse_u64(s: &[u8]) -> Option<u64>
+    ensures { ParsedKeeps (unsigned 10 18446744073709551615 s.now) result }
 {
-    unsigned(s, 10, 18446744073709551615)
+    parse(s, 10)
 }
 
-pub fn parse_hex_u16(s: &[u8]) -> ParsedU16
-    ensures { U16Keeps (unsigned 16 65535 s.now) result }
+pub fn parse_hex_u16(s: &[u8]) -> Option<u16>
+    ensures { ParsedKeeps (unsigned 16 65535 s.now) result }
 {
-    u16_in(s, 16)
+    parse(s, 16)
 }
 
-pub fn parse_hex_u32(s: &[u8]) -> ParsedU32
-    ensures { U32Keeps (unsigned 16 4294967295 s.now) result }
+pub fn parse_hex_u32(s: &[u8]) -> Option<u32>
+    ensures { ParsedKeeps (unsigned 16 4294967295 s.now) result }
 {
-    u32_in(s, 16)
+    parse(s, 16)
 }
 
 // -m, formed below zero, where the least i32 has a place.
@@ -162,17 +180,17 @@ fn negative(m: u64) -> i32
     -1 - ((m - 1) as i32)
 }
 
-pub fn parse_i32(s: &[u8]) -> ParsedI32
-    ensures { I32Keeps (signed 10 2147483647 s.now) result }
+pub fn parse_i32(s: &[u8]) -> Option<i32>
+    ensures { ParsedKeeps (signed 10 2147483647 s.now) result }
 {
     if bytes::byte_at(s, 0) == b'-' {
         return match magnitude(s, 1, 10, 2147483648) {
-            ParsedU64::Is(m) => ParsedI32::Is(negative(m)),
-            ParsedU64::Not => ParsedI32::Not,
+            Some(m) => Some(negative(m)),
+            None => None,
         };
     }
     match unsigned(s, 10, 2147483647) {
-        ParsedU64::Is(n) => ParsedI32::Is(n as i32),
-        ParsedU64::Not => ParsedI32::Not,
+        Some(n) => Some(n as i32),
+        None => None,
     }
 }
