@@ -8,7 +8,7 @@ use lib.Ieee.{Float}
 use lib.Ieee.Exact.{HasValue}
 use Rattle.text.specs.Reading as R
 use Rattle.text.specs.Reading.{Reading, read}
-use Rattle.text.proofs.One.{one_answer, answer}
+use Rattle.text.proofs.One.{one_answer}
 use Rattle.numeral.specs.Numeral.{Decimal, numeral_text}
 use Rattle.numeral.specs.Nearest.{Nearest, Answers}
 use Rattle.numeral.specs.Nearest.{value as is-value, refused as is-refused}
@@ -17,13 +17,17 @@ use Rattle.numeral.proofs.Pattern.{ten_pos}
 use Rattle.numeral.proofs.NumeralGrammar.{single}
 use Rattle.numeral.proofs.UniqueNearest.{sole}
 
-back : (r : Option Float) → answer Some (λ k. None) (λ x. x) (says r) ≡ r
+taken : Reading Float → Option Float
+taken (read x) = Some x
+taken (R.refused k) = None
+
+back : (r : Option Float) → taken (says r) ≡ r
 back (Some x) = refl
 back None = refl
 
 -- one answer: read
 pub one_numeral : (s : List ℕ) (a b : Option Float) → NumeralKeeps s a → NumeralKeeps s b → a ≡ b
-one_numeral s a b p q = one_answer says (answer Some (λ k. None) (λ x. x)) back a b (numeral_text s) p.exact q.exact
+one_numeral s a b p q = one_answer says taken back a b (numeral_text s) p.exact q.exact
 
 -- one sign and one magnitude
 abbrev Alike : Reading Float → Reading Float → Type 0
