@@ -17,7 +17,7 @@ use Rattle.numeral.proofs.Pattern.{ten_pos}
 use Rattle.numeral.proofs.NumeralGrammar.{single}
 use Rattle.numeral.proofs.UniqueNearest.{sole}
 
-taken : Reading Float → Option Float
+abbrev taken : Reading Float → Option Float
 taken (read x) = Some x
 taken (R.refused k) = None
 

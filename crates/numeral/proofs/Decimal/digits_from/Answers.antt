@@ -30,7 +30,8 @@ pub returns-then-not-is_ascii_digit : goal.returns-then-not-is_ascii_digit
 returns-then-not-is_ascii_digit c = search other_byte
 
 pub returns-then-count-ge-MAX_DIGITS : goal.returns-then-count-ge-MAX_DIGITS
-returns-then-count-ge-MAX_DIGITS c = search many
+returns-then-count-ge-MAX_DIGITS c =
+    many _ _ _ _ _ _ c.loop-i.invariant.said c.loop-i-test.true c.if-c-eq46.false (omega arith)
 
 pub overflow_mul-number : goal.overflow_mul-number
 overflow_mul-number c = omega (arith, fewer c.loop-i.number c.loop-i.count c.loop-i.invariant.short c.if-count-ge-MAX_DIGITS.false)
