@@ -1,14 +1,14 @@
 -- A numeral by the counts of its bytes: behind the sign stand one to fifteen digits, at most one point, and nothing else. Assumes nothing.
 use mathlib.Core.Path.{◌≡◌, refl, ap, sym, ◌∙◌}
-use mathlib.Core.Bool.{Bool, true, false, cond, ◌&&◌, ◌||◌}
+use mathlib.Core.Bool.{Bool, true, false, cond, ◌&&◌}
 use mathlib.Core.List.{List, [], ◌∷◌, ◌++◌}
 use mathlib.Core.Option.{Option, none, some}
-use Prim.Native.Nat.{ℕ, zero, suc, ◌+◌, ◌-◌, ◌^◌, ◌≤◌, ◌<◌}
+use Prim.Native.Nat.{ℕ, zero, suc, ◌+◌, ◌^◌, ◌≤◌, ◌<◌}
 use native.Mathlib.Nat.{zero-add}
 use native.Mathlib.Numerals.{add-one}
 use native.Mathlib.Omega.{arith}
 use lib.Dec.{eqb, leb}
-use lib.ListN.{length, take, drop, get_or, length-drop}
+use lib.ListN.{length, take, drop, get_or}
 use mir.Syntax.{w64}
 use mir.Val.{Fits, bool_byte}
 use borrow.Author.Tests.{eq-eqb, ne_eqb, eqb-true, eqb-false, le-leb, leb-true}
@@ -149,68 +149,60 @@ counts_tell n t =
 
 -- ---- the loop of `is_counted`
 
-pub record Counted (s : List ℕ) (start d p i : ℕ) : Type 0 where
+-- the counts so far, with those of what is left, are those of the whole
+pub record Counted (t : List ℕ) (d p i : ℕ) : Type 0 where
   pub most : d + p ≤ i
-  pub digits : d + digit_count (drop i s) ≡ digit_count (drop start s)
-  pub points : p + count_of point (drop i s) ≡ count_of point (drop start s)
+  pub digits : d + digit_count (drop i t) ≡ digit_count t
+  pub points : p + count_of point (drop i t) ≡ count_of point t
 
-pub counted_none : (s : List ℕ) (start : ℕ) → Counted s start 0 0 start
-counted_none s start = record { most = omega arith; digits = zero-add _; points = zero-add _ }
+pub counted_none : (t : List ℕ) → Counted t 0 0 0
+counted_none t = record { most = omega arith; digits = zero-add _; points = zero-add _ }
 
-byte_of : (t : Bool) → bool_byte t ≡ cond t 1 0
+byte_of : (b : Bool) → bool_byte b ≡ cond b 1 0
 byte_of true = refl
 byte_of false = refl
 
-module _ (s : List ℕ) (start d p i : ℕ) (c : Counted s start d p i) where
-  pub digits_fit : i < length s → length s < 2 ^ 64 → (t : Bool) → Fits w64 (d + bool_byte t)
+module _ (t : List ℕ) (d p i : ℕ) (c : Counted t d p i) where
+  pub digits_fit : i < length t → length t < 2 ^ 64 → (b : Bool) → Fits w64 (d + bool_byte b)
   digits_fit h m true = record { fits = omega (arith, c.most) }
   digits_fit h m false = record { fits = omega (arith, c.most) }
 
-  pub points_fit : i < length s → length s < 2 ^ 64 → (t : Bool) → Fits w64 (p + bool_byte t)
+  pub points_fit : i < length t → length t < 2 ^ 64 → (b : Bool) → Fits w64 (p + bool_byte b)
   points_fit h m true = record { fits = omega (arith, c.most) }
   points_fit h m false = record { fits = omega (arith, c.most) }
 
-  pub counted_more : i < length s → (t : Bool) → t ≡ is_digit (get_or s i 0) → Counted s start (d + bool_byte t) (p + bool_byte (eqb (get_or s i 0) 46)) (i + 1)
-  counted_more h t is =
-      let x = get_or s i 0 in
-      let a : bool_byte t ≡ cond (is_digit x) 1 0 = byte_of t ∙ ap (λ (b : Bool). cond b 1 0) is in
-      let b : bool_byte (eqb x 46) ≡ cond (eqb x point) 1 0 = byte_of (eqb x 46) in
-      let l = at_next s i h in
+  pub counted_more : i < length t → (b : Bool) → b ≡ is_digit (get_or t i 0) → Counted t (d + bool_byte b) (p + bool_byte (eqb (get_or t i 0) 46)) (i + 1)
+  counted_more h b is =
+      let x = get_or t i 0 in
+      let digit : bool_byte b ≡ cond (is_digit x) 1 0 = byte_of b ∙ ap (λ (v : Bool). cond v 1 0) is in
+      let dot : bool_byte (eqb x 46) ≡ cond (eqb x point) 1 0 = byte_of (eqb x 46) in
+      let l = at_next t i h in
       record {
-        most = omega (arith, c.most, a, b, one_thing x);
-        digits = omega (arith, c.digits, a, ap digit_count l);
-        points = omega (arith, c.points, b, ap (count_of point) l);
+        most = omega (arith, c.most, digit, dot, one_thing x);
+        digits = omega (arith, c.digits, digit, ap digit_count l);
+        points = omega (arith, c.points, dot, ap (count_of point) l);
       }
 
-  module _ (h : length s ≤ i) where
-    all_digits_lem : d ≡ digit_count (drop start s)
-    all_digits_lem = let z = ap digit_count (at_end s i h) in omega (arith, c.digits)
+  module _ (h : length t ≤ i) where
+    all_digits_lem : d ≡ digit_count t
+    all_digits_lem = let z = ap digit_count (at_end t i h) in omega (arith, c.digits)
 
-    all_points : p ≡ count_of point (drop start s)
-    all_points = let z = ap (count_of point) (at_end s i h) in omega (arith, c.points)
+    all_points : p ≡ count_of point t
+    all_points = let z = ap (count_of point) (at_end t i h) in omega (arith, c.points)
 
-    pub sum_fits : length s < 2 ^ 64 → Fits w64 (d + p)
-    sum_fits m = record { fits = omega (arith, all_digits_lem, all_points, few (drop start s), length-drop start s) }
+    pub sum_fits : length t < 2 ^ 64 → Fits w64 (d + p)
+    sum_fits m = record { fits = omega (arith, all_digits_lem, all_points, few t) }
 
-    pub counts_told : (n : Bool) → eqb (d + p) (length s - start) && leb p 1 && leb 1 d && leb d 15 ≡ present (behind_sign n (drop start s))
-    counts_told n = rw (all_digits_lem, all_points, ← length-drop start s) (counts_tell n (drop start s))
+    pub counts_told : (n : Bool) → eqb (d + p) (length t) && leb p 1 && leb 1 d && leb d 15 ≡ present (behind_sign n t)
+    counts_told n = rw (all_digits_lem, all_points) (counts_tell n t)
 
 -- ---- behind the sign
-
-pub sign_start : (s : List ℕ) (x : ℕ) → x ≡ get_or s 0 0 → (drop (bool_byte (eqb x 45 || eqb x 43)) s ≡ unsigned s) × (bool_byte (eqb x 45 || eqb x 43) ≤ length s)
-unfolding unsigned starts_with
-sign_start [] x e = rw e (refl, omega arith)
-sign_start (y ∷ s) x e = rw e (go (eqb y 45) (eqb y 43))
-  where
-    go : (a b : Bool) → (drop (bool_byte (a || b)) (y ∷ s) ≡ cond ((a && true) || (b && true)) s (y ∷ s)) × (bool_byte (a || b) ≤ suc (length s))
-    go true b = (refl, omega arith)
-    go false true = (refl, omega arith)
-    go false false = (refl, omega arith)
 
 present_rounded : (o : Option Decimal) → present (rounded o) ≡ present o
 present_rounded none = refl
 present_rounded (some d) = refl
 
-pub numeral_told : (s : List ℕ) (start : ℕ) (r : Bool) → drop start s ≡ unsigned s → ((n : Bool) → r ≡ present (behind_sign n (drop start s))) → r ≡ is_numeral s
+pub numeral_told : (s t : List ℕ) (r : Bool) → t ≡ unsigned s → ((n : Bool) → r ≡ present (behind_sign n t)) → r ≡ is_numeral s
 unfolding is_numeral float_of decimal_of
-numeral_told s start r e f = f (starts_with (bytes "-") s) ∙ ap (λ (t : List ℕ). present (behind_sign (starts_with (bytes "-") s) t)) e ∙ sym (present_rounded (decimal_of s))
+numeral_told s t r e f =
+    f (starts_with (bytes "-") s) ∙ ap (λ (u : List ℕ). present (behind_sign (starts_with (bytes "-") s) u)) e ∙ sym (present_rounded (decimal_of s))

@@ -1,22 +1,18 @@
--- What is still to be said of a numeral when some of its bytes were read: `rest` of the bytes that follow. One law for each turn of the loop, and for each way out.
-use mathlib.Core.Path.{◌≡◌, refl, sym, ◌∙◌}
-use mathlib.Core.Bool.{Bool, true, false, cond, not}
-use mathlib.Core.List.{List, [], ◌∷◌, ◌++◌}
+-- What is still to be said of a numeral when some of its bytes were read: `rest` of the bytes that
+-- follow. One law for each turn of the loop, and for each way out.
+use Rattle.std.proofs.Common.{◌≡◌, ℕ, suc, ◌+◌, ◌-◌, ◌*◌, ◌^◌, ◌≤◌, ◌<◌, Bool, true, false, cond, List, [], ◌∷◌, ◌++◌, length, drop, get_or, Some, None, is_some, refl, sym, ◌∙◌, arith, add-zero, add-one, zero-add, ne_eqb, le-leb, length-drop}
+use Rattle.std.proofs.Common as P
 use mathlib.Core.Option.{Option, none, some}
-use Prim.Native.Nat.{ℕ, suc, ◌+◌, ◌-◌, ◌*◌, ◌^◌, ◌≤◌, ◌<◌}
-use native.Mathlib.Nat.{add-zero, mul-one, zero-add, zero-mul, pow-succ'}
-use native.Mathlib.Numerals.{add-one}
-use native.Mathlib.Omega.{arith}
-use lib.Dec.{ltb}
-use lib.ListN.{length, drop, get_or, drop_of_length-le, length-drop}
-use borrow.Author.Tests.{ne_eqb, lt-ltb, le-ltb, le-leb, lt-leb, ltb-false, not-true, not-false}
+use native.Mathlib.Nat.{mul-one, zero-mul, pow-succ'}
+use lib.ListN.{drop_of_length-le}
+use borrow.Author.Tests.{lt-leb}
 use Rattle.text.specs.Bytes.{within}
 use Rattle.text.specs.Digit.{is_digit, above_zero}
 use Rattle.text.specs.Part.{before, after}
 use Rattle.text.specs.Number.{digit_value, below, prefixed, digits_of, value_of}
 use Rattle.text.proofs.AtIndex.{at_next}
-use Rattle.numeral.specs.Numeral.{Decimal, point, decimal, behind_sign}
 use Rattle.text.proofs.Digits.{decimal_is, decimal_not, one_more}
+use Rattle.numeral.specs.Numeral.{Decimal, point, decimal, behind_sign}
 
 -- ---- k digits make the number a; those that follow make the decimal with them, p places behind the point
 
@@ -44,82 +40,78 @@ joined_many n a k p (some d) (some ds) h =
     let l : 1 ≤ k + suc (length ds) = omega arith in
     rw (le-leb 1 _ l, lt-leb _ 15 u)
 
--- ---- the digits among the bytes that follow, before the point was read and after it, and how many places there are
+-- ---- the digits among the bytes that follow, and how many places there are: before the point was
+-- read, and after it, where the digits behind it begin at b of n bytes
 
-abbrev digits : Bool → List ℕ → List ℕ
-digits true l = l
-digits false l = before point l ++ after point l
+abbrev digits : P.Option ℕ → List ℕ → List ℕ
+digits None l = before point l ++ after point l
+digits (Some b) l = l
 
-abbrev places : Bool → ℕ → List ℕ → ℕ
-places true p l = p
-places false p l = length (after point l)
+abbrev pub places : P.Option ℕ → ℕ → List ℕ → ℕ
+places None n l = length (after point l)
+places (Some b) n l = n - b
 
-unfoldable pub rest : Bool → ℕ → ℕ → ℕ → Bool → List ℕ → Option Decimal
-rest n a k p seen l = joined n a k (places seen p l) (digits_of 10 (digits seen l))
+unfoldable pub rest : Bool → ℕ → ℕ → ℕ → P.Option ℕ → List ℕ → Option Decimal
+rest s a k n back l = joined s a k (places back n l) (digits_of 10 (digits back l))
 
--- at a byte that is no point; behind the point; at the end
+-- at a byte that is no point; at the end
 
-module _ (n : Bool) (a k p c : ℕ) (l : List ℕ) where
-  no_point : (seen : Bool) → (c ≡ 46 → ⊥) → rest n a k p seen (c ∷ l) ≡ joined n a k (places seen p l) (prefixed (below 10 (digit_value c)) (digits_of 10 (digits seen l)))
-  unfolding rest digits_of
-  no_point true h = refl
-  no_point false h = rw (ne_eqb c 46 h, add-one, add-one) refl
+no_point : (s : Bool) (a k n c : ℕ) (l : List ℕ) (back : P.Option ℕ) → (c ≡ 46 → ⊥)
+    → rest s a k n back (c ∷ l) ≡ joined s a k (places back n l) (prefixed (below 10 (digit_value c)) (digits_of 10 (digits back l)))
+unfolding rest digits_of
+no_point s a k n c l None h = rw (ne_eqb c 46 h, add-one, add-one) refl
+no_point s a k n c l (Some b) h = refl
 
-after_point : (n : Bool) (a k p : ℕ) (t : Bool) (l : List ℕ) → length l ≡ p → (t ≡ false → l ≡ []) → joined n a k (length l) (digits_of 10 l) ≡ rest n a k p t l
-unfolding rest
-after_point n a k p true l e f = rw e
-after_point n a k p false l e f = rw (f refl)
+at_end : (s : Bool) (a k n : ℕ) (back : P.Option ℕ)
+    → rest s a k n back [] ≡ cond (within 1 15 k) (some (record { negative = s; number = a; places = places back n [] })) none
+unfolding rest digits_of value_of
+at_end s a k n None = simp (add-zero, mul-one)
+at_end s a k n (Some b) = simp (add-zero, mul-one)
 
-at_end : (n : Bool) (a k p : ℕ) (t : Bool) → (t ≡ false → p ≡ 0)
-    → joined n a k (places t p []) (digits_of 10 (digits t [])) ≡ cond (within 1 15 k) (some (record { negative = n; number = a; places = p })) none
-unfolding digits_of value_of
-at_end n a k p true f = simp (add-zero, mul-one)
-at_end n a k p false f = simp (add-zero, mul-one, f refl)
+-- ---- the loop over the text's bytes: at i, behind k digits that make a
 
--- ---- the loop over the bytes of s, from `start` on: at i, behind k digits that make a, with the digits behind the point from `back` on
+abbrev pub Loop : (text : List ℕ) (s : Bool) (a k : ℕ) (back : P.Option ℕ) (i : ℕ) → Type 0
+Loop text s a k back i = behind_sign s text ≡ rest s a k (length text) back (drop i text)
 
-abbrev pub Loop : (s : List ℕ) (start : ℕ) (n : Bool) (a k back i : ℕ) → Type 0
-Loop s start n a k back i = behind_sign n (drop start s) ≡ rest n a k (length s - back) (ltb back (length s)) (drop i s)
-
-pub begun : (s : List ℕ) (start : ℕ) (n : Bool) → Loop s start n 0 0 (length s) start
+pub begun : (text : List ℕ) (s : Bool) → Loop text s 0 0 None 0
 unfolding rest behind_sign
-begun s start n = rw (le-ltb (length s) (length s) (omega arith), joined_none)
+begun text s = rw joined_none
 
-module _ (s : List ℕ) (start : ℕ) (n : Bool) (a k back i : ℕ) (inv : Loop s start n a k back i) where
-  module _ (h : i < length s) where
-    pub second_point : get_or s i 0 ≡ 46 → back < length s → none ≡ behind_sign n (drop start s)
-    unfolding rest digits_of
-    second_point e l = rw (inv, lt-ltb back (length s) l, at_next s i h, e, decimal_not 46 refl)
+module _ (text : List ℕ) (s : Bool) (a k i : ℕ) where
+  pub second_point : (back : P.Option ℕ) → is_some back ≡ true → Loop text s a k back i → i < length text → get_or text i 0 ≡ 46 → none ≡ behind_sign s text
+  unfolding rest digits_of
+  second_point None q inv h e = cc
+  second_point (Some b) q inv h e = rw (inv, at_next text i h, e, decimal_not 46 refl)
 
-    pub first_point : get_or s i 0 ≡ 46 → length s ≤ back → Loop s start n a k (i + 1) (i + 1)
-    unfolding rest digits_of
-    first_point e l =
-        rw (inv, le-ltb back (length s) l, at_next s i h, e)
-        (after_point n a k (length s - (i + 1)) (ltb (i + 1) (length s)) (drop (i + 1) s) (length-drop (i + 1) s) (λ f. drop_of_length-le s (ltb-false (i + 1) (length s) f)))
+  pub first_point : (back : P.Option ℕ) → is_some back ≡ false → Loop text s a k back i → i < length text → get_or text i 0 ≡ 46 → Loop text s a k (Some (i + 1)) (i + 1)
+  unfolding rest digits_of
+  first_point None q inv h e = rw (inv, at_next text i h, e, length-drop (i + 1) text)
+  first_point (Some b) q inv h e = cc
 
-    other : (get_or s i 0 ≡ 46 → ⊥) → (o : Option ℕ) → below 10 (digit_value (get_or s i 0)) ≡ o → behind_sign n (drop start s)
-        ≡ joined n a k (places (ltb back (length s)) (length s - back) (drop (i + 1) s)) (prefixed o (digits_of 10 (digits (ltb back (length s)) (drop (i + 1) s))))
-    other e o v = rw (inv, at_next s i h, no_point n a k (length s - back) (get_or s i 0) (drop (i + 1) s) (ltb back (length s)) e, v)
+  module _ (back : P.Option ℕ) (inv : Loop text s a k back i) where
+    module _ (h : i < length text) where
+      other : (get_or text i 0 ≡ 46 → ⊥) → (o : Option ℕ) → below 10 (digit_value (get_or text i 0)) ≡ o
+          → behind_sign s text ≡ joined s a k (places back (length text) (drop (i + 1) text)) (prefixed o (digits_of 10 (digits back (drop (i + 1) text))))
+      other e o v = rw (inv, at_next text i h, no_point s a k (length text) (get_or text i 0) (drop (i + 1) text) back e, v)
 
-    pub other_byte : (t : Bool) → t ≡ is_digit (get_or s i 0) → (get_or s i 0 ≡ 46 → ⊥) → not t ≡ true → none ≡ behind_sign n (drop start s)
-    other_byte t told e f = sym (other e none (decimal_not (get_or s i 0) (sym told ∙ not-true t f)))
+      pub other_byte : (t : Bool) → t ≡ is_digit (get_or text i 0) → (get_or text i 0 ≡ 46 → ⊥) → t ≡ false → none ≡ behind_sign s text
+      other_byte t told e f = sym (other e none (decimal_not (get_or text i 0) (sym told ∙ f)))
 
-    pub many : (get_or s i 0 ≡ 46 → ⊥) → 15 ≤ k → none ≡ behind_sign n (drop start s)
-    many e l = rw (other e (below 10 (digit_value (get_or s i 0))) refl, joined_many)
+      pub many : (get_or text i 0 ≡ 46 → ⊥) → 15 ≤ k → none ≡ behind_sign s text
+      many e l = rw (other e (below 10 (digit_value (get_or text i 0))) refl, joined_many)
 
-    pub digit : (t : Bool) (v : ℕ) → t ≡ is_digit (get_or s i 0) → v ≡ above_zero (get_or s i 0) → (get_or s i 0 ≡ 46 → ⊥) → not t ≡ false → Loop s start n (a * 10 + v) (k + 1) back (i + 1)
-    unfolding rest
-    digit t v told value e f =
-        let is : is_digit (get_or s i 0) ≡ true = sym told ∙ not-false t f in
-        rw (value, other e (some (above_zero (get_or s i 0))) (decimal_is (get_or s i 0) is), joined_digit)
+      pub digit : (t : Bool) (v : ℕ) → t ≡ is_digit (get_or text i 0) → v ≡ above_zero (get_or text i 0) → (get_or text i 0 ≡ 46 → ⊥) → t ≡ true
+          → Loop text s (a * 10 + v) (k + 1) back (i + 1)
+      unfolding rest
+      digit t v told value e f =
+          let is : is_digit (get_or text i 0) ≡ true = sym told ∙ f in
+          rw (value, other e (some (above_zero (get_or text i 0))) (decimal_is (get_or text i 0) is), joined_digit)
 
-  module _ (h : length s ≤ i) where
-    pub no_digits : k ≡ 0 → none ≡ behind_sign n (drop start s)
-    unfolding rest digits_of
-    no_digits e = rw (inv, drop_of_length-le s h, at_end n a k (length s - back) (ltb back (length s)) (λ f. omega (arith, ltb-false back (length s) f)), e)
+    module _ (h : length text ≤ i) where
+      pub no_digits : k ≡ 0 → none ≡ behind_sign s text
+      no_digits e = rw (inv, drop_of_length-le text h, at_end s a k (length text) back, e)
 
-    pub all_digits_lem : (k ≡ 0 → ⊥) → k ≤ 15 → some (record { negative = n; number = a; places = length s - back }) ≡ behind_sign n (drop start s)
-    unfolding rest digits_of
-    all_digits_lem e l =
-        let g : 1 ≤ k = omega arith in
-        rw (inv, drop_of_length-le s h, at_end n a k (length s - back) (ltb back (length s)) (λ f. omega (arith, ltb-false back (length s) f)), le-leb 1 k g, le-leb k 15 l)
+      pub all_digits_lem : (k ≡ 0 → ⊥) → k ≤ 15 → some (record { negative = s; number = a; places = places back (length text) [] }) ≡ behind_sign s text
+      all_digits_lem e l =
+          let g : 1 ≤ k = omega arith in
+          rw (inv, drop_of_length-le text h, at_end s a k (length text) back, le-leb 1 k g, le-leb k 15 l)

@@ -7,4 +7,5 @@ pub mod NumeralGrammar
 pub mod One
 pub mod Pattern
 pub mod Rounding
+pub mod Signs
 pub mod UniqueNearest

@@ -144,9 +144,18 @@ silent s f = go (decimal_of s) refl
 
 -- ---- a numeral's two numbers are small
 
+pub small_behind : (n : Bool) (t : List ℕ) (d : Decimal) → behind_sign n t ≡ some d → (d.number < 10 ^ 15) × (d.places ≤ 15)
+unfolding behind_sign
+small_behind n t d e =
+    let front = before point t in
+    let back = after point t in
+    let m = made n (length back) (digits_of 10 (front ++ back)) d e in
+    let p : 10 ^ length m.digits ≤ 10 ^ 15 = pow-le-pow_right {n = 10} (omega arith) {i = length m.digits} {j = 15} m.at_most in
+    let long = digits_length (front ++ back) m.digits m.are in
+    let number : d.number ≡ value_of 10 m.digits = ap (λ (x : Decimal). x.number) m.is in
+    let places : d.places ≡ length back = ap (λ (x : Decimal). x.places) m.is in
+    (omega (arith, digits_value (front ++ back) m.digits m.are), omega (arith, length-append front back, m.at_most))
+
 pub small : (s : List ℕ) (d : Decimal) → decimal_of s ≡ some d → (d.number < 10 ^ 15) × (d.places ≤ 15)
-small s d e =
-    let r = sound s d e in
-    let p : 10 ^ length r.digits ≤ 10 ^ 15 = pow-le-pow_right {n = 10} (omega arith) {i = length r.digits} {j = 15} r.at_most in
-    let n = digits_length (r.front ++ r.back) r.digits r.are_digits in
-    (omega (arith, digits_value (r.front ++ r.back) r.digits r.are_digits, r.value), omega (arith, n, length-append r.front r.back, r.places, r.at_most))
+unfolding decimal_of
+small s d e = small_behind (starts_with (bytes "-") s) (unsigned s) d e

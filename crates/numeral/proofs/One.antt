@@ -3,13 +3,12 @@ use mathlib.Core.Path.{◌≡◌, refl, subst}
 use mathlib.Core.Bool.{Bool}
 use mathlib.Core.List.{List}
 use Prim.Native.Nat.{ℕ, ◌*◌, ◌^◌}
+use Rattle.std.proofs.Common.{Option, Some, None}
 use lib.Ieee.{Float}
 use lib.Ieee.Exact.{HasValue}
 use Rattle.text.specs.Reading as R
 use Rattle.text.specs.Reading.{Reading, read}
-use Rattle.text.proofs.One.{one_answer, answer}
-use Rattle.numeral.specs.declared.Numeral.{Numeral}
-use Rattle.numeral.specs.declared.Numeral.TheVariants.{Value, Refused}
+use Rattle.text.proofs.One.{one_answer}
 use Rattle.numeral.specs.Numeral.{Decimal, numeral_text}
 use Rattle.numeral.specs.Nearest.{Nearest, Answers}
 use Rattle.numeral.specs.Nearest.{value as is-value, refused as is-refused}
@@ -18,13 +17,17 @@ use Rattle.numeral.proofs.Pattern.{ten_pos}
 use Rattle.numeral.proofs.NumeralGrammar.{single}
 use Rattle.numeral.proofs.UniqueNearest.{sole}
 
-back : (r : Numeral) → answer Value (λ k. Refused) (λ x. x) (says r) ≡ r
-back (Value x) = refl
-back Refused = refl
+abbrev taken : Reading Float → Option Float
+taken (read x) = Some x
+taken (R.refused k) = None
+
+back : (r : Option Float) → taken (says r) ≡ r
+back (Some x) = refl
+back None = refl
 
 -- one answer: read
-pub one_numeral : (s : List ℕ) (a b : Numeral) → NumeralKeeps s a → NumeralKeeps s b → a ≡ b
-one_numeral s a b p q = one_answer says (answer Value (λ k. Refused) (λ x. x)) back a b (numeral_text s) p.exact q.exact
+pub one_numeral : (s : List ℕ) (a b : Option Float) → NumeralKeeps s a → NumeralKeeps s b → a ≡ b
+one_numeral s a b p q = one_answer says taken back a b (numeral_text s) p.exact q.exact
 
 -- one sign and one magnitude
 abbrev Alike : Reading Float → Reading Float → Type 0

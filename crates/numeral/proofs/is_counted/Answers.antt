@@ -2,8 +2,8 @@ use borrow.Author.Rules.{rules}
 use Rattle.numeral.proofs.Counting.{counted_none, digits_fit, points_fit, counted_more, sum_fits, counts_told}
 use Rattle.numeral.proofs.is_counted.Goals as goal
 
-pub loop-i-init : goal.loop-i-init
-loop-i-init c = search (rules, counted_none)
+pub loop-c-init : goal.loop-c-init
+loop-c-init c = search (rules, counted_none)
 
 pub overflow_add-digits : goal.overflow_add-digits
 overflow_add-digits c = search (rules, digits_fit)
@@ -11,11 +11,11 @@ overflow_add-digits c = search (rules, digits_fit)
 pub overflow_add-points : goal.overflow_add-points
 overflow_add-points c = search (rules, points_fit)
 
-pub loop-i-preserved : goal.loop-i-preserved
-loop-i-preserved c = search (rules, counted_more)
+pub loop-c-preserved : goal.loop-c-preserved
+loop-c-preserved c = search (rules, counted_more)
 
 pub overflow_add-result : goal.overflow_add-result
 overflow_add-result c = search (rules, sum_fits)
 
 pub returns : goal.returns
-returns c = counts_told _ _ _ _ _ c.loop-i.invariant c.loop-i-test.false
+returns c = counts_told _ _ _ _ c.loop-c.invariant c.loop-c-test.false

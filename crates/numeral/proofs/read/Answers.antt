@@ -1,44 +1,29 @@
--- What was scanned is small enough to be rounded, and the rounded decimal is the nearest f32.
-use mathlib.Core.Path.{◌≡◌, refl, sym, ap, ◌∙◌}
-use mathlib.Core.Bool.{Bool}
-use mathlib.Core.List.{List}
-use mathlib.Core.Option.{none, some}
-use Prim.Native.Nat.{ℕ, ◌^◌, ◌≤◌, ◌<◌}
-use native.Mathlib.Omega.{arith}
+-- The f32 that a scanned decimal is rounded to is the nearest.
+use Rattle.std.proofs.Common.{◌≡◌, ℕ, ◌^◌, List, Some, None, sym, arith}
+use mathlib.Core.Option as paper
 use lib.Ieee.{Float, binary32, round}
-use Rattle.numeral.specs.declared.Scanned.{Scanned}
-use Rattle.numeral.specs.declared.Scanned.TheVariants.{Exact, Not}
 use Rattle.text.specs.Reading.{need_else}
-use Rattle.numeral.specs.Numeral.{decimal_of, float_of, numeral_text}
+use Rattle.numeral.specs.Numeral.{Decimal, decimal_of, float_of, numeral_text}
 use Rattle.numeral.specs.Nearest.{value, refused}
-use Rattle.numeral.specs.declared.Numeral.TheVariants.{Value, Refused}
-use Rattle.numeral.specs.says.Numeral.{scanned_says, NumeralKeeps}
+use Rattle.numeral.specs.says.Numeral.{NumeralKeeps}
 use Rattle.numeral.proofs.Pattern.{ten_pos}
 use Rattle.numeral.proofs.Rounding.{round_nearest}
 use Rattle.numeral.proofs.NumeralGrammar.{sound, unsaid, small}
 use Rattle.numeral.proofs.read.Goals as goal
 
-module _ (s : List ℕ) (r : Scanned) (told : scanned_says r ≡ decimal_of s) where
-  narrow : (n : Bool) (m k : ℕ) → r ≡ Exact n m k → (m < 10 ^ 15) × (k ≤ 15)
-  narrow n m k e = small s (record { negative = n; number = m; places = k }) (sym told ∙ ap scanned_says e)
-
-  answered : (n : Bool) (m k : ℕ) (x : Float) → r ≡ Exact n m k → x ≡ round binary32 n m (10 ^ k) → NumeralKeeps s (Value x)
+module _ (s : List ℕ) where
+  answered : (d : Decimal) (x : Float) → paper.some d ≡ decimal_of s → x ≡ round binary32 d.negative d.number (10 ^ d.places) → NumeralKeeps s (Some x)
   unfolding numeral_text float_of need_else
-  answered n m k x e f =
-      let d : decimal_of s ≡ some (record { negative = n; number = m; places = k }) = sym told ∙ ap scanned_says e in
-      record { exact = rw (d, f); nearest = rw f (value (sound s _ d) (round_nearest n m (10 ^ k) (ten_pos k) (omega (arith, narrow n m k e)))) }
+  answered d x e f =
+      let small = small s d (sym e) in
+      record { exact = rw (← e, f); nearest = rw f (value (sound s d (sym e)) (round_nearest d.negative d.number (10 ^ d.places) (ten_pos d.places) (omega arith))) }
 
-  unanswered : r ≡ Not → NumeralKeeps s Refused
+  unanswered : paper.none ≡ decimal_of s → NumeralKeeps s None
   unfolding numeral_text float_of need_else
-  unanswered e =
-      let d : decimal_of s ≡ none = sym told ∙ ap scanned_says e in
-      record { exact = rw d; nearest = refused (unsaid s d) }
+  unanswered e = record { exact = rw (← e); nearest = refused (unsaid s (sym e)) }
 
-pub nearest-requires : goal.nearest-requires
-nearest-requires c = narrow _ _ c.in-Exact.ensures _ _ _ refl
+pub returns : goal.returns
+returns c = answered _ _ _ c.in_ok-decimal.ensures c.nearest.ensures
 
-pub returns-in-Exact : goal.returns-in-Exact
-returns-in-Exact c = answered _ _ c.in-Exact.ensures _ _ _ _ refl c.nearest.ensures
-
-pub returns-in-Not : goal.returns-in-Not
-returns-in-Not c = unanswered _ _ c.in-Not.ensures refl
+pub returns-in_err-decimal : goal.returns-in_err-decimal
+returns-in_err-decimal c = rw c.from_residual.ensures (unanswered _ c.in_err-decimal.ensures)
