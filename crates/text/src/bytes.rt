@@ -1,5 +1,7 @@
 // Tests on a line's bytes, and where a byte stands.
-ghost use Rattle.std.specs.Prelude.{◌≡◌, ◌+◌, ◌<◌, ◌≤◌, length, drop, slice_index};
+#![tactic(auto, using(crate::proofs::Finding::words))]
+
+ghost use Rattle.std.specs.Prelude.{◌≡◌, ◌+◌, ◌<◌, length, drop, slice_index};
 ghost use Rattle.text.specs.Bytes.{same, starts_with, ends_with, index_of, count_of, has, all_within, all_digits};
 ghost use Rattle.text.specs.Gives.{Gives};
 
@@ -9,31 +11,24 @@ use crate::digit;
 pub fn byte_at(s: &[u8], i: usize) -> u8
     ensures { Gives (slice_index s.now i) result }
 {
-    if s.len() <= i {
-        return 0;
-    }
-    s[i]
+    s.get(i).copied().unwrap_or(0)
 }
 
 // The index of the first b of s at or after `from`: where there is none, the length, or `from` where that is larger.
 pub fn find(s: &[u8], from: usize, b: u8) -> usize
     ensures { Gives (from + index_of b (drop from s.now)) result }
 {
-    let mut i = from;
-    while i < s.len() {
-        if s[i] == b {
-            return i;
-        }
-        i += 1;
-    }
-    i
+    let Some(rest) = s.get(from..) else {
+        return from;
+    };
+    from + rest.iter().position(|x| *x == b).unwrap_or(rest.len())
 }
 
 // Whether s has a b.
 pub fn has_byte(s: &[u8], b: u8) -> bool
     ensures { Gives (has b s.now) result }
 {
-    find(s, 0, b) < s.len()
+    s.contains(&b)
 }
 
 // How often b stands in s, a text of at most 255 bytes: the count is a byte too, so the compiler counts in sixteen places at once.
@@ -42,10 +37,8 @@ fn count_few(s: &[u8], b: u8) -> u8
     ensures { result ≡ count_of b s.now }
 {
     let mut n = 0;
-    let mut i = 0;
-    while i < s.len() {
-        n += (s[i] == b) as u8;
-        i += 1;
+    for x in s {
+        n += (*x == b) as u8;
     }
     n
 }
@@ -57,88 +50,40 @@ pub fn count_byte(s: &[u8], b: u8) -> usize
     if s.len() < 256 {
         return count_few(s, b) as usize;
     }
-    let mut n = 0;
-    let mut i = 0;
-    while i < s.len() {
-        n += (s[i] == b) as usize;
-        i += 1;
-    }
-    n
-}
-
-// Whether the text p stands in s at index `at`.
-fn stands_at(s: &[u8], at: usize, p: &[u8]) -> bool
-    requires { at ≤ length s.now }
-    ensures { result ≡ starts_with p.now (drop at s.now) }
-{
-    if s.len() - at < p.len() {
-        return false;
-    }
-    let mut i = 0;
-    while i < p.len() {
-        if s[at + i] != p[i] {
-            return false;
-        }
-        i += 1;
-    }
-    true
+    s.iter().filter(|x| **x == b).count()
 }
 
 // Whether s begins with p.
 pub fn starts_with(s: &[u8], p: &[u8]) -> bool
     ensures { Gives (starts_with p.now s.now) result }
 {
-    stands_at(s, 0, p)
+    s.starts_with(p)
 }
 
 // Whether s is the text t.
 pub fn is_text(s: &[u8], t: &[u8]) -> bool
     ensures { Gives (same s.now t.now) result }
 {
-    if s.len() == t.len() {
-        return stands_at(s, 0, t);
-    }
-    false
+    s == t
 }
 
 // Whether s ends with p.
 pub fn ends_with(s: &[u8], p: &[u8]) -> bool
     ensures { Gives (ends_with p.now s.now) result }
 {
-    if s.len() < p.len() {
-        return false;
-    }
-    stands_at(s, s.len() - p.len(), p)
+    s.ends_with(p)
 }
 
 // Whether all bytes of s lie from lo to hi.
 pub fn all_within(s: &[u8], lo: u8, hi: u8) -> bool
     ensures { Gives (all_within lo hi s.now) result }
 {
-    let mut i = 0;
-    while i < s.len() {
-        let x = s[i];
-        if x < lo {
-            return false;
-        }
-        if hi < x {
-            return false;
-        }
-        i += 1;
-    }
-    true
+    s.iter().all(|x| lo <= *x && *x <= hi)
 }
 
 // Whether all bytes of s are ASCII digits.
 pub fn all_digits(s: &[u8]) -> bool
     ensures { Gives (all_digits s.now) result }
 {
-    let mut i = 0;
-    while i < s.len() {
-        if !digit::is_ascii_digit(s[i]) {
-            return false;
-        }
-        i += 1;
-    }
-    true
+    s.iter().all(|x| digit::is_ascii_digit(*x))
 }
