@@ -1,10 +1,10 @@
 -- The words of specs/Bytes.antt are std's for a slice's own methods: where a byte stands, how often, and what a line begins and ends with. Assumes nothing.
-use Rattle.std.proofs.Common.{◌≡◌, ℕ, suc, ◌+◌, ◌-◌, Bool, true, false, cond, ◌&&◌, ◌||◌, eqb, ltb, List, [], ◌∷◌, length, take, drop, sym, refl, ap, ◌∙◌, arith, eq-eqb, ne_eqb, eqb-true, lt-ltb, ltb-false, not, Option, Some, None, unwrap_or, take_all, length-drop, ◌≤◌}
+use Rattle.std.proofs.Common.{◌≡◌, ℕ, suc, ◌+◌, ◌-◌, ◌<◌, Bool, true, false, cond, ◌&&◌, ◌||◌, eqb, ltb, List, [], ◌∷◌, ◌++◌, length, take, drop, sym, refl, ap, ◌∙◌, arith, ◌⊎◌, inl, inr, eq-eqb, ne_eqb, eqb-true, lt-ltb, ltb-false, not, Option, Some, None, unwrap_or, take_all, length-drop, ◌≤◌}
 use mathlib.Core.Bool.{and-false}
 use lib.Dec.{leb-suc-suc, eqb-suc-suc, eqb-zero-suc, eqb-suc-zero}
 use Rattle.std.specs.Cmp.Lexicographic.{pointwise}
 use Rattle.std.specs.List.{position, slice_range, position_or_len, count_by, list_any, list_all}
-use Rattle.std.proofs.lemmas.List.Sums.{prefix_len-le-length}
+use Rattle.std.proofs.lemmas.List.Sums.{prefix_len-le-length, sum_by-append}
 use Rattle.std.proofs.lemmas.List.Recursion.{is_position_or_len, is_count_by}
 use borrow.Author.Tests.{eqb-false}
 use Rattle.text.specs.Bytes.{starts_with, same, ends_with, index_of, count_of, has, within, all_within}
@@ -13,21 +13,21 @@ module _ (b : ℕ) where
   pub index_is : (s : List ℕ) → index_of b s ≡ position_or_len (λ x. eqb x b) s
   index_is = is_position_or_len (index_of b) (λ x. eqb x b) refl (λ x t. ap (cond (eqb x b) 0) (omega arith))
 
-  -- what `position` finds in the rest of a line, or the rest's length
-  pub found_in : (s rest : List ℕ) (from : ℕ) → rest ≡ slice_range s from (length s) → unwrap_or (position (λ x. eqb x b) rest) (length rest) ≡ index_of b (drop from s)
-  found_in s rest from e =
-      let l = length-drop from s in
-      let z : rest ≡ drop from s = e ∙ take_all (length s - from) (drop from s) (omega arith) in
-      rw (z, index_is (drop from s)) (or_length (drop from s))
+  found : (s : List ℕ) (o : Option ℕ) → o ≡ position (λ x. eqb x b) s → unwrap_or o (length s) ≡ index_of b s
+  found s o e = rw (e, index_is s) (go (ltb k (length s)) (ltb-false k (length s)) (prefix_len-le-length (λ x. not (eqb x b)) s))
     where
-      or_length : (t : List ℕ) → unwrap_or (position (λ x. eqb x b) t) (length t) ≡ position_or_len (λ x. eqb x b) t
-      or_length t = go (ltb k (length t)) (ltb-false k (length t)) (prefix_len-le-length (λ x. not (eqb x b)) t)
-        where
-          k : ℕ
-          k = position_or_len (λ x. eqb x b) t
-          go : (u : Bool) → (u ≡ false → length t ≤ k) → k ≤ length t → unwrap_or (cond u (Some k) None) (length t) ≡ k
-          go true h l = refl
-          go false h l = let m = h refl in omega arith
+      k : ℕ
+      k = position_or_len (λ x. eqb x b) s
+      go : (t : Bool) → (t ≡ false → length s ≤ k) → k ≤ length s → unwrap_or (cond t (Some k) None) (length s) ≡ k
+      go true h l = refl
+      go false h l = let m = h refl in omega arith
+
+  -- what `position` finds in the rest of a line, or the rest's length where it finds none
+  pub found_in : (s : List ℕ) (from : ℕ) (o : Option ℕ) → o ≡ position (λ x. eqb x b) (take (length s - from) (drop from s))
+      → unwrap_or o (length (take (length s - from) (drop from s))) ≡ index_of b (drop from s)
+  found_in s from o e =
+      let z = take_all (length s - from) (drop from s) (omega (arith, length-drop from s)) in
+      found _ o e ∙ ap (index_of b) z
 
   count_step : (t : Bool) (n : ℕ) → cond t 1 0 + n ≡ cond t (1 + n) n
   count_step true n = refl
@@ -35,6 +35,17 @@ module _ (b : ℕ) where
 
   pub count_is : (s : List ℕ) → count_of b s ≡ count_by (λ x. eqb x b) s
   count_is = is_count_by (count_of b) (λ x. eqb x b) refl (λ x t. count_step (eqb x b) (count_of b t))
+
+  pub count_append : (s t : List ℕ) → count_of b (s ++ t) ≡ count_of b s + count_of b t
+  count_append s t = count_is (s ++ t) ∙ sum_by-append (λ x. cond (eqb x b) 1 0) s t ∙ sym (ap (λ (n : ℕ). n + count_of b t) (count_is s) ∙ ap (λ (n : ℕ). count_by (λ x. eqb x b) s + n) (count_is t))
+
+  -- one turn of `count_byte`, which takes the front off what is left
+  pub count_turn : (n c : ℕ) (s left front rest : List ℕ) → n + count_of b left ≡ count_of b s → left ≡ front ++ rest → c ≡ count_of b front → n + c + count_of b rest ≡ count_of b s
+  count_turn n c s left front rest inv e q = let z = ap (count_of b) e ∙ count_append front rest in omega arith
+
+  pub count_none : (n : ℕ) (s left : List ℕ) → n + count_of b left ≡ count_of b s → length left ≡ 0 → n ≡ count_of b s
+  count_none n s [] inv e = omega arith
+  count_none n s (x ∷ left) inv e = absurd (omega arith)
 
   pub has_is : (s : List ℕ) → has b s ≡ list_any (λ x. eqb x b) s
   unfolding has
@@ -57,11 +68,35 @@ swapped a b = go (eqb b a) (eqb-true b a) (eqb-false b a)
     go true h k = eq-eqb a b (sym (h refl))
     go false h k = ne_eqb a b (λ e. k refl (sym e))
 
-pub starts_is : (p s : List ℕ) → starts_with p s ≡ pointwise eqb p (take (length p) s)
+-- `starts_with`: a line that is shorter, or has another byte, and one that has the same byte
+pub starts_long : (p s : List ℕ) → length s < length p → starts_with p s ≡ false
 unfolding starts_with
-starts_is [] s = refl
-starts_is (b ∷ p) [] = refl
-starts_is (b ∷ p) (x ∷ s) = rw (swapped x b, starts_is p s)
+starts_long [] s h = absurd (omega arith)
+starts_long (b ∷ p) [] h = refl
+starts_long (b ∷ p) (x ∷ s) h = rw (starts_long p s (omega arith)) (and-false (eqb x b))
+
+starts_none : (p s : List ℕ) → length p ≤ 0 → true ≡ starts_with p s
+unfolding starts_with
+starts_none [] s l = refl
+starts_none (b ∷ p) s l = absurd (omega arith)
+
+-- what is left of p and of the line, q and t, says whether the line begins with p
+pub record Left (p s q t : List ℕ) : Type 0 where
+  pub room : length q ≤ length t
+  pub same : starts_with p s ≡ starts_with q t
+
+module _ (p s q t : List ℕ) (h : Left p s q t) where
+  module _ (x y : ℕ) (u v : List ℕ) (first : t ≡ x ∷ v) (second : q ≡ y ∷ u) where
+    pub starts_other : (x ≡ y → ⊥) → false ≡ starts_with p s
+    unfolding starts_with
+    starts_other n = rw (h.same, first, second, ne_eqb x y n)
+
+    pub starts_same : x ≡ y → Left p s u v
+    unfolding starts_with
+    starts_same n = record { room = omega (arith, h.room, ap length first, ap length second); same = h.same ∙ rw (first, second, eq-eqb x y n) }
+
+  pub starts_end : (length q ≡ 0) ⊎ (length t ≡ 0) → true ≡ starts_with p s
+  starts_end e = rw h.same (starts_none q t (elim e [ inl l ↦ omega arith | inr l ↦ omega (arith, h.room) ]))
 
 pub same_is : (s t : List ℕ) → same s t ≡ pointwise eqb s t
 unfolding same starts_with
@@ -74,17 +109,19 @@ same_is (x ∷ s) (y ∷ t) = rw eqb-suc-suc (go (eqb (length s) (length t)) (sa
     go true h = ap (λ (u : Bool). eqb x y && u) h
     go false h = sym (and-false (eqb x y)) ∙ ap (λ (u : Bool). eqb x y && u) h
 
-turned : (s t : List ℕ) → pointwise eqb s t ≡ pointwise eqb t s
-turned [] [] = refl
-turned [] (y ∷ t) = refl
-turned (x ∷ s) [] = refl
-turned (x ∷ s) (y ∷ t) = rw (swapped x y, turned s t)
+-- `ends_with`
+pub ends_short : (s p : List ℕ) → length s < length p → ends_with p s ≡ false
+unfolding ends_with same
+ends_short s p h = rw (ne_eqb (length (drop (length s - length p) s)) (length p) (λ e. omega (arith, length-drop (length s - length p) s)))
 
-pub ends_is : (p s : List ℕ) → ends_with p s ≡ pointwise eqb p (drop (length s - length p) s)
-unfolding ends_with
-ends_is p s = same_is (drop (length s - length p) s) p ∙ turned (drop (length s - length p) s) p
+pub ends_is : (s p : List ℕ) → length p ≤ length s → starts_with p (take (length s - (length s - length p)) (drop (length s - length p) s)) ≡ ends_with p s
+unfolding ends_with same
+ends_is s p h =
+    let l = length-drop (length s - length p) s in
+    let z = take_all (length s - (length s - length p)) (drop (length s - length p) s) (omega arith) in
+    rw (z, eq-eqb (length (drop (length s - length p) s)) (length p) (omega arith))
 
-pub ruleset words = (index_is, count_is, has_is, within_is, starts_is, same_is, ends_is)
+pub ruleset words = (has_is, same_is)
 
 pub other_length : (s t : List ℕ) → (length s ≡ length t → ⊥) → false ≡ same s t
 unfolding same
