@@ -1,5 +1,5 @@
 -- The words of specs/Bytes.antt are std's for a slice's own methods: where a byte stands, how often, and what a line begins and ends with. Assumes nothing.
-use Rattle.std.proofs.Common.{◌≡◌, ℕ, suc, ◌+◌, ◌-◌, ◌<◌, Bool, true, false, cond, ◌&&◌, ◌||◌, eqb, ltb, List, [], ◌∷◌, ◌++◌, length, take, drop, sym, refl, ap, ◌∙◌, arith, ◌⊎◌, inl, inr, eq-eqb, ne_eqb, eqb-true, lt-ltb, ltb-false, not, Option, Some, None, unwrap_or, take_all, length-drop, ◌≤◌}
+use Rattle.std.proofs.Common.{◌≡◌, ℕ, suc, ◌+◌, ◌-◌, ◌<◌, Bool, true, false, cond, ◌&&◌, ◌||◌, eqb, ltb, List, [], ◌∷◌, ◌++◌, length, take, drop, sym, refl, ap, ◌∙◌, arith, get_or, eq-eqb, ne_eqb, eqb-true, lt-ltb, ltb-false, not, Option, Some, None, unwrap_or, take_all, length-drop, ◌≤◌}
 use mathlib.Core.Bool.{and-false}
 use lib.Dec.{leb-suc-suc, eqb-suc-suc, eqb-zero-suc, eqb-suc-zero}
 use Rattle.std.specs.Cmp.Lexicographic.{pointwise}
@@ -7,6 +7,7 @@ use Rattle.std.specs.List.{position, slice_range, position_or_len, count_by, lis
 use Rattle.std.proofs.lemmas.List.Sums.{prefix_len-le-length, sum_by-append}
 use Rattle.std.proofs.lemmas.List.Recursion.{is_position_or_len, is_count_by}
 use borrow.Author.Tests.{eqb-false}
+use Rattle.text.proofs.AtIndex.{at_next, at_end}
 use Rattle.text.specs.Bytes.{starts_with, same, ends_with, index_of, count_of, has, within, all_within}
 
 module _ (b : ℕ) where
@@ -69,34 +70,24 @@ swapped a b = go (eqb b a) (eqb-true b a) (eqb-false b a)
     go false h k = ne_eqb a b (λ e. k refl (sym e))
 
 -- `starts_with`: a line that is shorter, or has another byte, and one that has the same byte
-pub starts_long : (p s : List ℕ) → length s < length p → starts_with p s ≡ false
+pub starts_long : (p s : List ℕ) → length s < length p → false ≡ starts_with p s
 unfolding starts_with
 starts_long [] s h = absurd (omega arith)
 starts_long (b ∷ p) [] h = refl
-starts_long (b ∷ p) (x ∷ s) h = rw (starts_long p s (omega arith)) (and-false (eqb x b))
+starts_long (b ∷ p) (x ∷ s) h = rw (← starts_long p s (omega arith)) (sym (and-false (eqb x b)))
 
-starts_none : (p s : List ℕ) → length p ≤ 0 → true ≡ starts_with p s
-unfolding starts_with
-starts_none [] s l = refl
-starts_none (b ∷ p) s l = absurd (omega arith)
+module _ (p s : List ℕ) (i : ℕ) (room : length p ≤ length s) (inv : starts_with p s ≡ starts_with (drop i p) (drop i s)) where
+  pub starts_other : i < length p → (get_or s i 0 ≡ get_or p i 0 → ⊥) → false ≡ starts_with p s
+  unfolding starts_with
+  starts_other h e = rw (inv, at_next p i h, at_next s i (omega arith), ne_eqb _ _ e)
 
--- what is left of p and of the line, q and t, says whether the line begins with p
-pub record Left (p s q t : List ℕ) : Type 0 where
-  pub room : length q ≤ length t
-  pub same : starts_with p s ≡ starts_with q t
+  pub starts_same : i < length p → get_or s i 0 ≡ get_or p i 0 → starts_with p s ≡ starts_with (drop (i + 1) p) (drop (i + 1) s)
+  unfolding starts_with
+  starts_same h e = rw (inv, at_next p i h, at_next s i (omega arith), eq-eqb _ _ e)
 
-module _ (p s q t : List ℕ) (h : Left p s q t) where
-  module _ (x y : ℕ) (u v : List ℕ) (first : t ≡ x ∷ v) (second : q ≡ y ∷ u) where
-    pub starts_other : (x ≡ y → ⊥) → false ≡ starts_with p s
-    unfolding starts_with
-    starts_other n = rw (h.same, first, second, ne_eqb x y n)
-
-    pub starts_same : x ≡ y → Left p s u v
-    unfolding starts_with
-    starts_same n = record { room = omega (arith, h.room, ap length first, ap length second); same = h.same ∙ rw (first, second, eq-eqb x y n) }
-
-  pub starts_end : (length q ≡ 0) ⊎ (length t ≡ 0) → true ≡ starts_with p s
-  starts_end e = rw h.same (starts_none q t (elim e [ inl l ↦ omega arith | inr l ↦ omega (arith, h.room) ]))
+  pub starts_end : length p ≤ i → true ≡ starts_with p s
+  unfolding starts_with
+  starts_end h = rw (inv, at_end p i h)
 
 pub same_is : (s t : List ℕ) → same s t ≡ pointwise eqb s t
 unfolding same starts_with

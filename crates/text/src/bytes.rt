@@ -32,8 +32,8 @@ pub fn has_byte(s: &[u8], b: u8) -> bool
     s.contains(&b)
 }
 
-// How often b stands in s, a text of at most 255 bytes. The count is a byte too, so that the compiler counts in sixteen places at once: to filter and
-// count took twice the time.
+// How often b stands in s, a text of at most 255 bytes. The count is a byte too, so that the compiler counts in sixteen places at once:
+// `filter` and `count` took twice as long.
 fn count_few(s: &[u8], b: u8) -> u8
     requires { length s.now < 256 }
     ensures { result ≡ count_of b s.now }
@@ -45,10 +45,13 @@ fn count_few(s: &[u8], b: u8) -> u8
     n
 }
 
-// How often b stands in s.
+// How often b stands in s. A line is one such text: to count it in chunks too took a fifth longer.
 pub fn count_byte(s: &[u8], b: u8) -> usize
     ensures { Gives (count_of b s.now) result }
 {
+    if s.len() < 256 {
+        return usize::from(count_few(s, b));
+    }
     let mut n = 0;
     for few in s.chunks(255) {
         n += usize::from(count_few(few, b));
@@ -56,15 +59,15 @@ pub fn count_byte(s: &[u8], b: u8) -> usize
     n
 }
 
-// Whether s begins with p. A slice's own `starts_with` compares many bytes at once: at a line that differs early, as most do, it took up to twice the time.
+// Whether s begins with p. Most lines differ early: a slice's own `starts_with`, which compares many bytes at once, took up to 2.3 times as long at them.
 pub fn starts_with(s: &[u8], p: &[u8]) -> bool
     ensures { Gives (starts_with p.now s.now) result }
 {
     if s.len() < p.len() {
         return false;
     }
-    for (x, y) in s.iter().zip(p) {
-        if *x != *y {
+    for (i, x) in p.iter().enumerate() {
+        if s[i] != *x {
             return false;
         }
     }
