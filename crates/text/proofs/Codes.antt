@@ -1,58 +1,18 @@
 -- Codes that are matched as texts: the place of a text in a list, field by field, and a table's number at that place. Assumes nothing.
-use Rattle.std.proofs.Common.{◌≡◌, ℕ, zero, suc, ◌+◌, ◌-◌, ◌<◌, ◌≤◌, Bool, true, false, cond, T, eqb, List, [], ◌∷◌, length, drop, sym, refl, ap, ◌∙◌, add-zero, arith, eqb→eq, length-drop, take_all, drop-drop, rules}
+use Rattle.std.proofs.Common.{◌≡◌, ℕ, zero, suc, ◌+◌, ◌-◌, ◌<◌, ◌≤◌, Bool, true, false, cond, T, eqb, List, [], ◌∷◌, length, drop, sym, refl, ap, ◌∙◌, add-zero, arith, eqb→eq, length-drop, take_all, drop-drop, rules, position, Some, None, ltb}
 use mathlib.Core.Option.{Option, none, some}
+use Rattle.std.proofs.lemmas.List.Recursion.{is_position_or_len}
 use Rattle.text.specs.Bytes.{same, index_of}
-use Rattle.text.specs.Code.{Entry, code_in, place_in}
+use Rattle.text.specs.Code.{Entry, code_in, place_in, place_among}
 use Rattle.text.specs.Field.{fields}
 use Rattle.text.specs.Part.{part_of, before, after}
 use Rattle.text.proofs.Fields.{fields_has, fields_not, split}
 
--- ---- `place_in`
-
-place_head : (f : List ℕ) (fs : List (List ℕ)) (t : List ℕ) → same t f ≡ true → place_in (f ∷ fs) t ≡ 0
-place_head f fs t e = rw e
-
-place_tail : (f : List ℕ) (fs : List (List ℕ)) (t : List ℕ) → same t f ≡ false → place_in (f ∷ fs) t ≡ suc (place_in fs t)
-place_tail f fs t e = rw e
-
--- the text at `at` is looked at, after k others
-module _ (t l : List ℕ) (at k end : ℕ) (inside : at ≤ length l) (found : end ≡ at + index_of 44 (drop at l))
-    (so_far : place_in (fields 44 l) t ≡ k + place_in (fields 44 (drop at l)) t) where
-  part_is : part_of l at end ≡ before 44 (drop at l)
-  unfolding part_of
-  part_is = let z : end - at ≡ index_of 44 (drop at l) = omega arith in rw z
-
-  more : end < length l → fields 44 (drop at l) ≡ before 44 (drop at l) ∷ fields 44 (after 44 (drop at l))
-  more h = let z = length-drop at l in fields_has 44 (drop at l) (omega arith)
-
-  alone : length (drop at l) ≤ index_of 44 (drop at l) → fields 44 (drop at l) ≡ before 44 (drop at l) ∷ []
-  alone h = fields_not 44 (drop at l) h ∙ ap (λ (f : List ℕ). f ∷ []) (sym (take_all (index_of 44 (drop at l)) (drop at l) h))
-
-  last : length l ≤ end → fields 44 (drop at l) ≡ before 44 (drop at l) ∷ []
-  last h = let z = length-drop at l in alone (omega arith)
-
-  module _ (p : List ℕ) (part : p ≡ part_of l at end) (x : Bool) (is : x ≡ same t p) where
-    tested : same t (before 44 (drop at l)) ≡ x
-    tested = ap (same t) (sym part_is ∙ sym part) ∙ sym is
-
-    pub place_here : x ≡ true → k ≡ place_in (fields 44 l) t
-    place_here h =
-        sym (so_far
-        ∙ ap (λ (n : ℕ). k + n)
-        (split 44 (drop at l)
-        (λ m. ap (λ (fs : List (List ℕ)). place_in fs t) (fields_has 44 (drop at l) m) ∙ place_head (before 44 (drop at l)) (fields 44 (after 44 (drop at l))) t (tested ∙ h))
-        (λ m. ap (λ (fs : List (List ℕ)). place_in fs t) (alone m) ∙ place_head (before 44 (drop at l)) [] t (tested ∙ h)))
-        ∙ add-zero k)
-
-    pub place_none : x ≡ false → length l ≤ end → k + 1 ≡ place_in (fields 44 l) t
-    place_none h e = let z = place_tail (before 44 (drop at l)) [] t (tested ∙ h) in sym (so_far ∙ rw (last e, z))
-
-    pub place_on : x ≡ false → end < length l → place_in (fields 44 l) t ≡ k + 1 + place_in (fields 44 (drop (end + 1) l)) t
-    place_on h e =
-        let z = place_tail (before 44 (drop at l)) (fields 44 (after 44 (drop at l))) t (tested ∙ h) in
-        let d : end + 1 ≡ at + (index_of 44 (drop at l) + 1) = omega arith in
-        let n = so_far ∙ ap (λ (fs : List (List ℕ)). k + place_in fs t) (more e) ∙ ap (λ (n : ℕ). k + n) z in
-        rw (d, ← drop-drop) (n ∙ omega arith)
+-- `place_in` is where std's `position` finds it
+pub place_is : (ss : List (List ℕ)) (t : List ℕ) → place_among ss t ≡ position (same t) ss
+place_is ss t =
+    ap (λ (n : ℕ). cond (ltb n (length ss)) (Some n) None)
+    (is_position_or_len (λ (l : List (List ℕ)). place_in l t) (same t) refl (λ s l. ap (cond (same t s) 0) (omega arith)) ss)
 
 -- ---- tables
 

@@ -1,5 +1,5 @@
 -- Codes that are matched as texts: "00" is not "0" (document 01, "Numbers in a line").
-use Rattle.std.specs.Prelude.{ℕ, suc, cond, List, [], ◌∷◌}
+use Rattle.std.specs.Prelude.{ℕ, suc, cond, List, [], ◌∷◌, length, nat_lt, Option as Found, Some, None}
 use Prim.Native.String.{String}
 use Rattle.std.proofs.Math.Option.{Option, none, some}
 use Rattle.text.specs.Bytes.{bytes, same}
@@ -21,3 +21,7 @@ code_in (e ∷ es) t = cond (same t e.text) (some e.number) (code_in es t)
 abbrev pub place_in : List (List ℕ) → List ℕ → ℕ
 place_in [] t = 0
 place_in (s ∷ ss) t = cond (same t s) 0 (suc (place_in ss t))
+
+-- that place, where the text is one of them
+abbrev pub place_among : List (List ℕ) → List ℕ → Found ℕ
+place_among ss t = cond (nat_lt (place_in ss t) (length ss)) (Some (place_in ss t)) None

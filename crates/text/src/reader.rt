@@ -48,14 +48,12 @@ fn starts_at(s: &[u8], at: usize) -> [usize; 22]
     let mut places = [past; 22];
     places[0] = at;
     let mut k = 1;
-    let mut i = at;
-    while i < s.len() {
+    for i in at..s.len() {
         if 22 <= k {
             return places;
         }
         places[k] = i + 1;
-        k += (s[i] == b',') as usize;
-        i += 1;
+        k += usize::from(s[i] == b',');
     }
     if k < 22 {
         places[k] = past;
@@ -116,13 +114,11 @@ pub fn nth_field(line: &[u8], n: usize) -> &[u8]
     ensures { IsPart line.entry result (place_of n (fields 44 line.now)) (nth n (fields 44 line.now)) }
 {
     let mut r = FieldReader::new(line);
-    let mut k = 0;
-    while k < n {
+    for k in 0..n {
         if r.ended() {
             break;
         }
         r = r.next();
-        k += 1;
     }
     r.field()
 }

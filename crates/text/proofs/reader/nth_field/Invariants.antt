@@ -5,6 +5,3 @@ use Rattle.text.proofs.reader.nth_field.Given as goal
 
 abbrev pub invariant-loop-k : goal.invariant-loop-k
 invariant-loop-k l = record { line : l.r.line ≡ l.initial.r.line; place : l.r.at ≡ stands_at l.k l.initial.r.line.now; most : l.k ≤ l.n }
-
-abbrev pub decreases-loop-k : goal.decreases-loop-k
-decreases-loop-k l = l.n - l.k
