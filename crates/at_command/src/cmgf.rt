@@ -11,24 +11,23 @@ ghost use Rattle.at_command.specs.says.Request.{EncodeKeeps};
 
 use crate::write;
 use text::refusal::Refusal;
-use text::{bytes, line, part};
+use text::{bytes, code, line, part};
 
-#[derive(Clone, Copy)]
+#[derive(Clone, Copy, Debug, PartialEq, Eq)]
 pub enum SmsMessageFormat {
-    Pdu,
-    Text,
+    Pdu = 0,
+    Text = 1,
 }
+
+const FORMATS: [(&[u8], SmsMessageFormat); 2] = [
+    (b"0", SmsMessageFormat::Pdu),
+    (b"1", SmsMessageFormat::Text),
+];
 
 fn format_of(t: &[u8]) -> Option<SmsMessageFormat>
     ensures { option_mapped format_number result ≡ code_in message_formats t.now }
 {
-    if bytes::is_text(t, b"0") {
-        return Some(SmsMessageFormat::Pdu);
-    }
-    if bytes::is_text(t, b"1") {
-        return Some(SmsMessageFormat::Text);
-    }
-    None
+    code::coded(t, &FORMATS)
 }
 
 impl SmsMessageFormat {

@@ -17,16 +17,16 @@ use crate::write;
 use text::handed::TextAt;
 use text::part::Place;
 use text::refusal::Refusal;
-use text::{bytes, handed, line, part};
+use text::{bytes, code, handed, line, part};
 
-#[derive(Clone, Copy)]
+#[derive(Clone, Copy, Debug, PartialEq, Eq)]
 pub enum SyncNtpStatusCode {
-    Success,
-    NetworkError,
-    DnsResolutionError,
-    ConnectionError,
-    ServiceResponseError,
-    ServiceResponseTimeout,
+    Success = 1,
+    NetworkError = 61,
+    DnsResolutionError = 62,
+    ConnectionError = 63,
+    ServiceResponseError = 64,
+    ServiceResponseTimeout = 65,
 }
 
 #[derive(Clone, Copy)]
@@ -36,28 +36,19 @@ pub struct NetworkTime {
     pub time: Option<Place>,
 }
 
+const CODES: [(&[u8], SyncNtpStatusCode); 6] = [
+    (b"1", SyncNtpStatusCode::Success),
+    (b"61", SyncNtpStatusCode::NetworkError),
+    (b"62", SyncNtpStatusCode::DnsResolutionError),
+    (b"63", SyncNtpStatusCode::ConnectionError),
+    (b"64", SyncNtpStatusCode::ServiceResponseError),
+    (b"65", SyncNtpStatusCode::ServiceResponseTimeout),
+];
+
 fn code_of(t: &[u8]) -> Option<SyncNtpStatusCode>
     ensures { option_mapped code_number result ≡ code_in ntp_codes t.now }
 {
-    if bytes::is_text(t, b"1") {
-        return Some(SyncNtpStatusCode::Success);
-    }
-    if bytes::is_text(t, b"61") {
-        return Some(SyncNtpStatusCode::NetworkError);
-    }
-    if bytes::is_text(t, b"62") {
-        return Some(SyncNtpStatusCode::DnsResolutionError);
-    }
-    if bytes::is_text(t, b"63") {
-        return Some(SyncNtpStatusCode::ConnectionError);
-    }
-    if bytes::is_text(t, b"64") {
-        return Some(SyncNtpStatusCode::ServiceResponseError);
-    }
-    if bytes::is_text(t, b"65") {
-        return Some(SyncNtpStatusCode::ServiceResponseTimeout);
-    }
-    None
+    code::coded(t, &CODES)
 }
 
 // Reads what follows the prefix of seven bytes; the time's place is counted from the line's start.

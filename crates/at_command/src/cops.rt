@@ -17,21 +17,21 @@ use crate::{unquoted, write};
 use text::handed::TextAt;
 use text::part::Place;
 use text::refusal::Refusal;
-use text::{bytes, field, handed, line, part, reader};
+use text::{bytes, code, field, handed, line, part, reader};
 
-#[derive(Clone, Copy)]
+#[derive(Clone, Copy, Debug, PartialEq, Eq)]
 pub enum OperatorMode {
-    Automatic,
-    Manual,
-    ManualDeregister,
-    ManualAutomatic,
+    Automatic = 0,
+    Manual = 1,
+    ManualDeregister = 2,
+    ManualAutomatic = 4,
 }
 
-#[derive(Clone, Copy)]
+#[derive(Clone, Copy, Debug, PartialEq, Eq)]
 pub enum OperatorFormat {
-    Long,
-    Short,
-    Numeric,
+    Long = 0,
+    Short = 1,
+    Numeric = 2,
 }
 
 #[derive(Clone, Copy)]
@@ -42,37 +42,29 @@ pub struct OperatorInfo {
     pub operator_name: TextAt,
 }
 
+const MODES: [(&[u8], OperatorMode); 4] = [
+    (b"0", OperatorMode::Automatic),
+    (b"1", OperatorMode::Manual),
+    (b"2", OperatorMode::ManualDeregister),
+    (b"4", OperatorMode::ManualAutomatic),
+];
+
 fn mode_of(t: &[u8]) -> Option<OperatorMode>
     ensures { option_mapped mode_number result ≡ code_in operator_modes t.now }
 {
-    if bytes::is_text(t, b"0") {
-        return Some(OperatorMode::Automatic);
-    }
-    if bytes::is_text(t, b"1") {
-        return Some(OperatorMode::Manual);
-    }
-    if bytes::is_text(t, b"2") {
-        return Some(OperatorMode::ManualDeregister);
-    }
-    if bytes::is_text(t, b"4") {
-        return Some(OperatorMode::ManualAutomatic);
-    }
-    None
+    code::coded(t, &MODES)
 }
+
+const FORMATS: [(&[u8], OperatorFormat); 3] = [
+    (b"0", OperatorFormat::Long),
+    (b"1", OperatorFormat::Short),
+    (b"2", OperatorFormat::Numeric),
+];
 
 fn format_of(t: &[u8]) -> Option<OperatorFormat>
     ensures { option_mapped format_number result ≡ code_in operator_formats t.now }
 {
-    if bytes::is_text(t, b"0") {
-        return Some(OperatorFormat::Long);
-    }
-    if bytes::is_text(t, b"1") {
-        return Some(OperatorFormat::Short);
-    }
-    if bytes::is_text(t, b"2") {
-        return Some(OperatorFormat::Numeric);
-    }
-    None
+    code::coded(t, &FORMATS)
 }
 
 // Field n of t, or the lent fallback text when there is none: a part of one of the two.

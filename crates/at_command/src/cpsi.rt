@@ -12,23 +12,23 @@ ghost use Rattle.at_command.specs.says.Request.{EncodeKeeps};
 
 use crate::write;
 use text::refusal::Refusal;
-use text::{bytes, field, line, part, reader};
+use text::{bytes, code, field, line, part, reader};
 
-#[derive(Clone, Copy)]
+#[derive(Clone, Copy, Debug, PartialEq, Eq)]
 pub enum SystemMode {
-    NoService,
-    Gsm,
-    LteCatM1,
-    LteNbIot,
+    NoService = 0,
+    Gsm = 1,
+    LteCatM1 = 2,
+    LteNbIot = 3,
 }
 
-#[derive(Clone, Copy)]
+#[derive(Clone, Copy, Debug, PartialEq, Eq)]
 pub enum OperationMode {
-    Online,
-    Offline,
-    FactoryTest,
-    Reset,
-    LowPower,
+    Online = 0,
+    Offline = 1,
+    FactoryTest = 2,
+    Reset = 3,
+    LowPower = 4,
 }
 
 #[derive(Clone, Copy)]
@@ -37,43 +37,31 @@ pub struct SystemInfo {
     pub operation_mode: OperationMode,
 }
 
+const SYSTEM_MODES: [(&[u8], SystemMode); 4] = [
+    (b"NO SERVICE", SystemMode::NoService),
+    (b"GSM", SystemMode::Gsm),
+    (b"LTE CAT-M1", SystemMode::LteCatM1),
+    (b"LTE NB-IOT", SystemMode::LteNbIot),
+];
+
 fn system_of(t: &[u8]) -> Option<SystemMode>
     ensures { option_mapped system_number result ≡ code_in system_modes t.now }
 {
-    if bytes::is_text(t, b"NO SERVICE") {
-        return Some(SystemMode::NoService);
-    }
-    if bytes::is_text(t, b"GSM") {
-        return Some(SystemMode::Gsm);
-    }
-    if bytes::is_text(t, b"LTE CAT-M1") {
-        return Some(SystemMode::LteCatM1);
-    }
-    if bytes::is_text(t, b"LTE NB-IOT") {
-        return Some(SystemMode::LteNbIot);
-    }
-    None
+    code::coded(t, &SYSTEM_MODES)
 }
+
+const OPERATION_MODES: [(&[u8], OperationMode); 5] = [
+    (b"Online", OperationMode::Online),
+    (b"Offline", OperationMode::Offline),
+    (b"Factory Test Mode", OperationMode::FactoryTest),
+    (b"Reset", OperationMode::Reset),
+    (b"Low Power Mode", OperationMode::LowPower),
+];
 
 fn operation_of(t: &[u8]) -> Option<OperationMode>
     ensures { option_mapped operation_number result ≡ code_in operation_modes t.now }
 {
-    if bytes::is_text(t, b"Online") {
-        return Some(OperationMode::Online);
-    }
-    if bytes::is_text(t, b"Offline") {
-        return Some(OperationMode::Offline);
-    }
-    if bytes::is_text(t, b"Factory Test Mode") {
-        return Some(OperationMode::FactoryTest);
-    }
-    if bytes::is_text(t, b"Reset") {
-        return Some(OperationMode::Reset);
-    }
-    if bytes::is_text(t, b"Low Power Mode") {
-        return Some(OperationMode::LowPower);
-    }
-    None
+    code::coded(t, &OPERATION_MODES)
 }
 
 fn system_info(t: &[u8]) -> Result<SystemInfo, Refusal>

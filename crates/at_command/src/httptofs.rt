@@ -15,24 +15,24 @@ ghost use Rattle.at_command.specs.says.Request.{EncodeKeeps};
 
 use crate::write;
 use text::refusal::Refusal;
-use text::{bytes, line, number, part};
+use text::{bytes, code, line, number, part};
 
-#[derive(Clone, Copy)]
+#[derive(Clone, Copy, Debug, PartialEq, Eq)]
 pub enum StatusCode {
-    Continue,
-    Ok,
-    PartialContent,
-    BadRequest,
-    NotFound,
-    RequestTimeout,
-    InternalServerError,
-    NotHttpPdu,
-    NetworkError,
-    NoMemory,
-    DnsError,
-    StackBusy,
-    SslContinue,
-    OtherErrors,
+    Continue = 100,
+    Ok = 200,
+    PartialContent = 206,
+    BadRequest = 400,
+    NotFound = 404,
+    RequestTimeout = 408,
+    InternalServerError = 500,
+    NotHttpPdu = 600,
+    NetworkError = 601,
+    NoMemory = 602,
+    DnsError = 603,
+    StackBusy = 604,
+    SslContinue = 620,
+    OtherErrors = 0,
 }
 
 #[derive(Clone, Copy)]
@@ -46,22 +46,7 @@ impl StatusCode {
     pub fn number(self) -> u16
         ensures { Gives (status_number self) result }
     {
-        match self {
-            StatusCode::Continue => 100,
-            StatusCode::Ok => 200,
-            StatusCode::PartialContent => 206,
-            StatusCode::BadRequest => 400,
-            StatusCode::NotFound => 404,
-            StatusCode::RequestTimeout => 408,
-            StatusCode::InternalServerError => 500,
-            StatusCode::NotHttpPdu => 600,
-            StatusCode::NetworkError => 601,
-            StatusCode::NoMemory => 602,
-            StatusCode::DnsError => 603,
-            StatusCode::StackBusy => 604,
-            StatusCode::SslContinue => 620,
-            StatusCode::OtherErrors => 0,
-        }
+        self as u16
     }
 
     // Whether a download succeeded, or the code of why not.
@@ -75,56 +60,26 @@ impl StatusCode {
     }
 }
 
-// The codes one after the other, in two calls: the compiler compares a constant text of three bytes at once.
-fn later_status_of(t: &[u8]) -> StatusCode
-    ensures { status_number result ≡ or_zero (code_in (drop 7 http_codes) t.now) }
-{
-    if bytes::is_text(t, b"600") {
-        return StatusCode::NotHttpPdu;
-    }
-    if bytes::is_text(t, b"601") {
-        return StatusCode::NetworkError;
-    }
-    if bytes::is_text(t, b"602") {
-        return StatusCode::NoMemory;
-    }
-    if bytes::is_text(t, b"603") {
-        return StatusCode::DnsError;
-    }
-    if bytes::is_text(t, b"604") {
-        return StatusCode::StackBusy;
-    }
-    if bytes::is_text(t, b"620") {
-        return StatusCode::SslContinue;
-    }
-    StatusCode::OtherErrors
-}
+const CODES: [(&[u8], StatusCode); 13] = [
+    (b"100", StatusCode::Continue),
+    (b"200", StatusCode::Ok),
+    (b"206", StatusCode::PartialContent),
+    (b"400", StatusCode::BadRequest),
+    (b"404", StatusCode::NotFound),
+    (b"408", StatusCode::RequestTimeout),
+    (b"500", StatusCode::InternalServerError),
+    (b"600", StatusCode::NotHttpPdu),
+    (b"601", StatusCode::NetworkError),
+    (b"602", StatusCode::NoMemory),
+    (b"603", StatusCode::DnsError),
+    (b"604", StatusCode::StackBusy),
+    (b"620", StatusCode::SslContinue),
+];
 
 fn status_of(t: &[u8]) -> StatusCode
     ensures { status_number result ≡ or_zero (code_in http_codes t.now) }
 {
-    if bytes::is_text(t, b"100") {
-        return StatusCode::Continue;
-    }
-    if bytes::is_text(t, b"200") {
-        return StatusCode::Ok;
-    }
-    if bytes::is_text(t, b"206") {
-        return StatusCode::PartialContent;
-    }
-    if bytes::is_text(t, b"400") {
-        return StatusCode::BadRequest;
-    }
-    if bytes::is_text(t, b"404") {
-        return StatusCode::NotFound;
-    }
-    if bytes::is_text(t, b"408") {
-        return StatusCode::RequestTimeout;
-    }
-    if bytes::is_text(t, b"500") {
-        return StatusCode::InternalServerError;
-    }
-    later_status_of(t)
+    code::coded(t, &CODES).unwrap_or(StatusCode::OtherErrors)
 }
 
 fn length_of(t: &[u8]) -> u64

@@ -15,21 +15,21 @@ use crate::httptofs::DownloadToFileSystem;
 use text::refusal::Refusal;
 
 // The kinds of response, in the order of trial.
-#[derive(Clone, Copy)]
+#[derive(Clone, Copy, Debug, PartialEq, Eq)]
 pub enum ResponseKind {
-    GenericOk,
-    SimError,
-    WritePrompt,
-    CloseOk,
-    Iccid,
-    SignalQuality,
-    SystemInfo,
-    OperatorInfo,
-    NetworkTime,
-    DownloadInfo,
-    Imei,
-    SmsMessageFormat,
-    SmsMessage,
+    GenericOk = 0,
+    SimError = 1,
+    WritePrompt = 2,
+    CloseOk = 3,
+    Iccid = 4,
+    SignalQuality = 5,
+    SystemInfo = 6,
+    OperatorInfo = 7,
+    NetworkTime = 8,
+    DownloadInfo = 9,
+    Imei = 10,
+    SmsMessageFormat = 11,
+    SmsMessage = 12,
 }
 
 impl ResponseKind {
@@ -37,21 +37,7 @@ impl ResponseKind {
     pub fn place(self) -> u8
         ensures { Gives (place_of (kind_says self)) result }
     {
-        match self {
-            ResponseKind::GenericOk => 0,
-            ResponseKind::SimError => 1,
-            ResponseKind::WritePrompt => 2,
-            ResponseKind::CloseOk => 3,
-            ResponseKind::Iccid => 4,
-            ResponseKind::SignalQuality => 5,
-            ResponseKind::SystemInfo => 6,
-            ResponseKind::OperatorInfo => 7,
-            ResponseKind::NetworkTime => 8,
-            ResponseKind::DownloadInfo => 9,
-            ResponseKind::Imei => 10,
-            ResponseKind::SmsMessageFormat => 11,
-            ResponseKind::SmsMessage => 12,
-        }
+        self as u8
     }
 
     // The kind at a place; past the last, the last.

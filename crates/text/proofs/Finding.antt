@@ -19,6 +19,7 @@ module _ (b : ℕ) where
     where
       k : ℕ
       k = position_or_len (λ x. eqb x b) s
+
       go : (t : Bool) → (t ≡ false → length s ≤ k) → k ≤ length s → unwrap_or (cond t (Some k) None) (length s) ≡ k
       go true h l = refl
       go false h l = let m = h refl in omega arith

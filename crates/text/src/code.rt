@@ -1,11 +1,17 @@
 // Codes that are matched as texts.
-ghost use Rattle.text.specs.Code.{place_among};
-ghost use Rattle.text.specs.Field.{fields};
+ghost use Rattle.text.specs.Code.{coded};
 ghost use Rattle.text.specs.Gives.{Gives};
 
-// The place of t, counted from 0, among the texts that commas part in list.
-pub fn place_in(t: &[u8], list: &[u8]) -> Option<usize>
-    ensures { Gives (place_among (fields 44 list.now) t.now) result }
+use crate::bytes;
+
+// The value that stands beside t in a table of texts.
+pub fn coded<T: Copy>(t: &[u8], table: &[(&[u8], T)]) -> Option<T>
+    ensures { Gives (coded table.now t.now) result }
 {
-    list.split(|x| *x == b',').position(|code| t == code)
+    for (code, value) in table {
+        if bytes::is_text(t, code) {
+            return Some(*value);
+        }
+    }
+    None
 }
