@@ -2,7 +2,12 @@
 use Prim.Native.Nat.{ℕ, ◌≤◌}
 use mathlib.Core.Path.{◌≡◌, ap, sym, ◌∙◌}
 use mathlib.Core.List.{List}
-use Rattle.text.specs.Reading.{Reading, refused, mapped, refusal_in}
+use Rattle.std.proofs.Common.{Result, Ok, Err, MatchResult, IsOkAnd}
+use Rattle.text.specs.Reading.{Reading, read, refused, mapped, refusal_in}
+use Rattle.text.specs.declared.refusal.Refusal.{Refusal}
+use Rattle.text.specs.says.Refusal.{reading_said}
+use Rattle.unsolicited.specs.declared.Urc.{Urc}
+use Rattle.unsolicited.specs.says.Urc.{urc_says}
 use Rattle.text.proofs.Conditions.{reading_past, refusal_as}
 use Rattle.unsolicited.specs.Urc.{Unsolicited, urc_readings, urc_reading_at}
 
@@ -17,6 +22,14 @@ module _ {A : Type 0} (g : A → Unsolicited) (text : List ℕ → Reading A) (k
   -- and its refusal alone
   pub forgets : (n : ℕ) → n ≡ refusal_in (text l) → n ≡ refusal_in (urc_reading_at place l)
   forgets n z = z ∙ refusal_as g (text l) ∙ ap refusal_in is_at
+
+-- an answer with its value among the unsolicited, as `map` gives it
+pub among : {V A : Type 0} (g : A → Unsolicited) (f : V → A) (h : V → Urc) → ((v : V) → urc_says (h v) ≡ g (f v)) → (r : Result V Refusal) (q : Result Urc Refusal)
+    → MatchResult r (λ v. IsOkAnd q (λ u. u ≡ h v)) (λ k. q ≡ Err k) → reading_said urc_says q ≡ mapped g (reading_said f r)
+unfolding mapped
+among g f h same (Ok v) (Ok u) e = ap (λ (u : Urc). read (urc_says u)) e ∙ ap read (same v)
+among g f h same (Ok v) (Err k) e = absurd e
+among g f h same (Err k) q e = rw e
 
 -- past the last
 pub past_last : (l : List ℕ) (place : ℕ) → 4 ≤ place → refused 3 ≡ urc_reading_at place l

@@ -68,10 +68,12 @@ unfolding is_fraction
 no_point [] f g = absurd (f refl)
 no_point (x ∷ s) f g = rw (ne_eqb x 46 g)
 
-pub behind_point : (s : List ℕ) → 2 ≤ length s → get_or s 0 0 ≡ 46 → (r : Bool) (t : List ℕ) → r ≡ all_digits t → t ≡ drop 1 s → r ≡ is_fraction s
+pub behind_point : (s t : List ℕ) → t ≡ drop 1 s → ¬ length t ≡ 0 → get_or s 0 0 ≡ 46 → (r : Bool) → r ≡ all_digits t → r ≡ is_fraction s
 unfolding is_fraction
-behind_point [] h g r t e is = absurd (omega arith)
-behind_point (x ∷ s) h g r t e is = rw (eq-eqb x 46 g, le-leb 1 (length s) (omega arith)) (e ∙ ap all_digits is)
+behind_point [] t is h g r e = absurd (h (ap length is))
+behind_point (x ∷ s) t is h g r e =
+    let l = ap length is in
+    rw (eq-eqb x 46 g, le-leb 1 (length s) (omega arith)) (e ∙ ap all_digits is)
 
 -- `existing_date`: the code's tests are those of the definition, put together in another way
 module _ (d : Date) (n : ℕ) (days : n ≡ days_in d.year d.month) where
@@ -97,27 +99,17 @@ module _ (t : List ℕ) where
   too_short h = rw (lt-leb 14 (length t) h)
 
   -- the first fourteen bytes under the name p, and whether they are digits under the name x
-  module _ (long : 14 ≤ length t) (p : List ℕ) (is : p ≡ part_of t 0 14) (x : Bool) (told : x ≡ all_digits p) where
-    front : p ≡ take 14 t
-    front = is ∙ from_start t 14
-
-    pub fourteen : 14 ≤ length p
-    fourteen = rw (front, length-take) (omega arith)
-
+  module _ (p : List ℕ) (front : p ≡ take 14 t) (long : 14 ≤ length t) (x : Bool) (told : x ≡ all_digits p) where
     pub no_digits : not x ≡ true → none ≡ date_of t
     unfolding date_of
     no_digits n = rw (le-leb 14 (length t) long, ← front, ← told, not-true x n)
 
-    module _ (yes : not x ≡ false) where
-      pub all_digits_lem : all_digits p ≡ true
-      all_digits_lem = sym told ∙ not-false x yes
+    -- and what is left, likewise
+    module _ (yes : x ≡ true) (q : List ℕ) (rest : q ≡ drop 14 t) (y : Bool) (heard : y ≡ is_fraction q) where
+      pub no_fraction : not y ≡ true → none ≡ date_of t
+      unfolding date_of
+      no_fraction n = rw (le-leb 14 (length t) long, ← front, ← told, yes, ← rest, ← heard, not-true y n)
 
-      -- and what is left, likewise
-      module _ (q : List ℕ) (rest : q ≡ drop 14 t) (y : Bool) (heard : y ≡ is_fraction q) where
-        pub no_fraction : not y ≡ true → none ≡ date_of t
-        unfolding date_of
-        no_fraction n = rw (le-leb 14 (length t) long, ← front, all_digits_lem, ← rest, ← heard, not-true y n)
-
-        pub dated : not y ≡ false → (d : Date) → d ≡ date_in p → (o : Option Date) → o ≡ existing d → o ≡ date_of t
-        unfolding date_of
-        dated n d e o k = rw (le-leb 14 (length t) long, ← front, all_digits_lem, ← rest, ← heard, not-false y n, ← e) k
+      pub dated : y ≡ true → (d : Date) → d ≡ date_in p → (o : Option Date) → o ≡ existing d → o ≡ date_of t
+      unfolding date_of
+      dated n d e o k = rw (le-leb 14 (length t) long, ← front, ← told, yes, ← rest, ← heard, n, ← e) k

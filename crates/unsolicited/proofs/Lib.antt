@@ -5,6 +5,7 @@ pub mod Conditions
 pub mod Dates
 pub mod Examples
 pub mod One
+pub mod Stripped
 pub mod Prefixes
 pub mod Registrations
 pub mod Reports

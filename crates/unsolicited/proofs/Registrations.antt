@@ -2,23 +2,27 @@
 use mathlib.Core.Path.{◌≡◌, refl, sym, ap, ◌∙◌}
 use mathlib.Core.Bool.{Bool, true, false, cond, ◌&&◌, ◌||◌, or_self_left, or-false, or_assoc}
 use mathlib.Core.List.{List, [], ◌∷◌}
-use mathlib.Core.Option.{Option}
+use mathlib.Core.Option.{Option, none, some}
 use Prim.Native.Nat.{ℕ, ◌≤◌, ◌<◌}
 use native.Mathlib.Omega.{arith}
 use lib.Dec.{eqb, leb}
 use lib.IntN.{ℤ, pos, negsuc}
 use lib.ListN.{length, drop}
 use mir.Syntax.{w32}
-use mir.Val.{SFits, of_z}
+use mir.Val.{SFits, of_z, to_z}
+use Rattle.std.specs.Prelude as Std
 use borrow.Author.Tests.{leb-true, le-leb, lt-ltb, le-ltb}
 use Rattle.text.specs.Bytes.{all_digits}
 use Rattle.text.specs.Part.{among}
 use Rattle.text.specs.Field.{fields, nth}
 use Rattle.text.specs.Number.{signed}
 use Rattle.text.specs.Reading.{Reading, read, refused, only, either, need, present, refusal_in}
-use Rattle.text.proofs.Readings.{via, refusal_need}
+use Rattle.text.specs.says.Refusal.{option_said}
+use Rattle.text.proofs.Numbers.{read_signed, miss_signed}
+use Rattle.text.proofs.Readings.{via, accepts}
 use Rattle.unsolicited.specs.Places.{status_place}
 use Rattle.unsolicited.specs.Registration.{Registration, status_of, registration_at, registration_fields, creg_text, cgreg_text, cereg_status, cereg_fields, cereg_text}
+use Rattle.text.proofs.Tests.{never}
 use Rattle.text.proofs.Yields.{yields_only, yields_either, yields_need}
 use Rattle.unsolicited.proofs.Trials.{Plain}
 
@@ -42,9 +46,9 @@ status_other (pos n) a b c d e = go (leb 1 n) (leb n 5) (leb-true 1 n) (leb-true
 five_twice : (n : ℕ) → among (2 ∷ 5 ∷ 5 ∷ []) n ≡ among (2 ∷ 5 ∷ []) n
 five_twice n = ap (λ (t : Bool). eqb n 2 || t) (or_self_left (eqb n 5) false)
 
-pub fields_five : (q : Reading Registration) (t s : List ℕ) → q ≡ registration_fields (2 ∷ 5 ∷ 5 ∷ []) (fields 44 t) → t ≡ s → q ≡ registration_fields (2 ∷ 5 ∷ []) (fields 44 s)
+pub fields_five : (fs : List (List ℕ)) → registration_fields (2 ∷ 5 ∷ 5 ∷ []) fs ≡ registration_fields (2 ∷ 5 ∷ []) fs
 unfolding registration_fields
-fields_five q t s e h = rw (← five_twice (length (fields 44 s))) (via (λ (l : List ℕ). registration_fields (2 ∷ 5 ∷ 5 ∷ []) (fields 44 l)) q t s e h)
+fields_five fs = rw (five_twice (length fs))
 
 -- +CEREG: what the code has as o of the field that it chose, of k fields of which f is the first and g the second
 module _ (o : Option ℤ) (k : ℕ) (t : List ℕ) (count : k ≡ length (fields 44 t)) where
@@ -63,39 +67,66 @@ module _ (o : Option ℤ) (k : ℕ) (t : List ℕ) (count : k ≡ length (fields
 
 -- `status_place`
 module _ (k l : ℕ) where
-  pub place_first : eqb k 1 || eqb k 4 ≡ true → 0 ≡ status_place (2 ∷ 5 ∷ l ∷ []) k
+  pub place_first : eqb k 1 || eqb k 4 ≡ true → some 0 ≡ status_place (2 ∷ 5 ∷ l ∷ []) k
   place_first h = rw (or-false (eqb k 4), h)
 
   module _ (h : eqb k 1 || eqb k 4 ≡ false) where
-    pub place_second : eqb k 2 || eqb k 5 || eqb k l ≡ true → 1 ≡ status_place (2 ∷ 5 ∷ l ∷ []) k
+    pub place_second : eqb k 2 || eqb k 5 || eqb k l ≡ true → some 1 ≡ status_place (2 ∷ 5 ∷ l ∷ []) k
     place_second e = rw (or-false (eqb k 4), h, or-false (eqb k l), sym (or_assoc (eqb k 2) (eqb k 5) (eqb k l)) ∙ e)
 
-    pub place_none : eqb k 2 || eqb k 5 || eqb k l ≡ false → 2 ≡ status_place (2 ∷ 5 ∷ l ∷ []) k
+    pub place_none : eqb k 2 || eqb k 5 || eqb k l ≡ false → none ≡ status_place (2 ∷ 5 ∷ l ∷ []) k
     place_none e = rw (or-false (eqb k 4), h, or-false (eqb k l), sym (or_assoc (eqb k 2) (eqb k 5) (eqb k l)) ∙ e)
 
 -- the status stands at the place n, or there is none
-module _ (skipping : List ℕ) (fs : List (List ℕ)) (k n : ℕ) (count : k ≡ length fs) (is : n ≡ status_place skipping k) where
-  pub at_place : n ≤ 1 → registration_at n fs ≡ registration_fields skipping fs
+module _ (skipping : List ℕ) (fs : List (List ℕ)) where
+  pub at_place : (n : ℕ) → some n ≡ status_place skipping (length fs) → registration_at n fs ≡ registration_fields skipping fs
   unfolding registration_fields either only
-  at_place h = go (among (1 ∷ 4 ∷ []) (length fs)) (among skipping (length fs)) (is ∙ ap (status_place skipping) count)
+  at_place n is = go (among (1 ∷ 4 ∷ []) (length fs)) (among skipping (length fs)) is
     where
-      go : (a b : Bool) → n ≡ cond a 0 (cond b 1 2) → registration_at n fs ≡ either a (registration_at 0 fs) (only b (registration_at 1 fs))
-      go true b e = ap (λ (m : ℕ). registration_at m fs) e
-      go false true e = ap (λ (m : ℕ). registration_at m fs) e
-      go false false e = absurd (omega arith)
+      go : (a b : Bool) → some n ≡ cond a (some 0) (cond b (some 1) none) → registration_at n fs ≡ either a (registration_at 0 fs) (only b (registration_at 1 fs))
+      go true b e = ap (λ (m : ℕ). registration_at m fs) (cc)
+      go false true e = ap (λ (m : ℕ). registration_at m fs) (cc)
+      go false false e = never (cc)
 
-  pub no_place : 1 < n → refused 3 ≡ registration_fields skipping fs
+  pub no_place : none ≡ status_place skipping (length fs) → refused 3 ≡ registration_fields skipping fs
   unfolding registration_fields either only
-  no_place h = go (among (1 ∷ 4 ∷ []) (length fs)) (among skipping (length fs)) (is ∙ ap (status_place skipping) count)
+  no_place is = go (among (1 ∷ 4 ∷ []) (length fs)) (among skipping (length fs)) is
     where
-      go : (a b : Bool) → n ≡ cond a 0 (cond b 1 2) → refused 3 ≡ either a (registration_at 0 fs) (only b (registration_at 1 fs))
-      go true b e = absurd (omega arith)
-      go false true e = absurd (omega arith)
+      go : (a b : Bool) → ◌≡◌ {A = Option ℕ} none (cond a (some 0) (cond b (some 1) none)) → refused 3 ≡ either a (registration_at 0 fs) (only b (registration_at 1 fs))
+      go true b e = never (cc)
+      go false true e = never (cc)
       go false false e = refl
 
--- the refusal alone: what is read beside the status refuses nothing
-pub by_status : (k : ℕ) (o p : Option ℤ) (g : ℤ → Registration) → k ≡ cond (present o) 0 3 → o ≡ p → k ≡ refusal_in (need p (λ z. read (g z)))
-by_status k o p g e h = e ∙ ap (λ (q : Option ℤ). cond (present q) 0 3) h ∙ refusal_need 3 0 p _ (λ z. refl)
+-- the code's answer o to the count k
+module _ (skipping : List ℕ) (fs : List (List ℕ)) (o : Std.Option ℕ) (k : ℕ) (place : option_said o ≡ status_place skipping k) (count : k ≡ length fs) where
+  placed : option_said o ≡ status_place skipping (length fs)
+  placed = place ∙ ap (status_place skipping) count
+
+  pub not_placed : o ≡ Std.None → refused 3 ≡ registration_fields skipping fs
+  not_placed e = no_place skipping fs (ap option_said (sym e) ∙ placed)
+
+  pub placed_at : (n : ℕ) → o ≡ Std.Some n → registration_at n fs ≡ registration_fields skipping fs
+  placed_at n e = at_place skipping fs n (ap option_said (sym e) ∙ placed)
+
+-- the refusal alone, by the code's answer o to the status: what is read beside it refuses nothing
+module _ (n : ℕ) (fs : List (List ℕ)) (t : List ℕ) (o : Std.Option ℤ) (said : option_said o ≡ signed 10 2147483647 t) (is : t ≡ nth n fs) where
+  pub status_none : o ≡ Std.None → refused 3 ≡ registration_at n fs
+  unfolding registration_at
+  status_none e = miss_signed 10 t (nth n fs) o _ said is e
+
+  pub status_some : (z : ℤ) → o ≡ Std.Some z → 0 ≡ refusal_in (registration_at n fs)
+  unfolding registration_at
+  status_some z e = accepts _ _ (read_signed 10 t (nth n fs) o _ z _ said is e refl)
+
+-- +CEREG, by the code's answer o to its status
+module _ (fs : List (List ℕ)) (o : Std.Option ℤ) (said : option_said o ≡ signed 10 2147483647 (cereg_status fs)) where
+  pub cereg_none : o ≡ Std.None → refused 3 ≡ cereg_fields fs
+  unfolding cereg_fields
+  cereg_none e = miss_signed 10 (cereg_status fs) (cereg_status fs) o _ said refl e
+
+  pub cereg_some : (z : ℤ) (k : ℕ) → o ≡ Std.Some z → k ≡ status_of (to_z w32 (of_z w32 z)) → read (record { status = k; lac = none; ci = none }) ≡ cereg_fields fs
+  unfolding cereg_fields
+  cereg_some z k e h = read_signed 10 (cereg_status fs) (cereg_status fs) o _ z _ said refl e (rw h)
 
 pub registry : (a x : ℕ) (b y c z : Option ℕ) → a ≡ x → b ≡ y → c ≡ z
     → ◌≡◌ {A = Reading Registration} (read (record { status = a; lac = b; ci = c })) (read (record { status = x; lac = y; ci = z }))

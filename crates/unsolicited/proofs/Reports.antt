@@ -1,4 +1,5 @@
--- The parts of +UGNSINF: where its fields begin, what may be empty, what the code's answers pick, of the report or of its refusal alone; and the date that a report has, or for want of which it is refused.
+-- The parts of +UGNSINF: where its fields begin, what may be empty, what the code's answers pick, of the
+-- report or of its refusal alone; and the date that a report has, or for want of which it is refused.
 -- Assumes nothing.
 use mathlib.Core.Path.{◌≡◌, refl, ap, sym, subst, ◌∙◌}
 use mathlib.Core.Bool.{Bool, true, false, cond, not, ◌&&◌}
@@ -12,20 +13,19 @@ use lib.IntN.{pos}
 use lib.ListN.{length, get_or, drop}
 use borrow.Author.Tests.{eq-eqb, ne_eqb, eqb-true, not-true, not-false}
 use Rattle.text.specs.Bytes.{bytes, same}
+use Rattle.std.specs.Prelude as Std
+use Rattle.std.specs.Option.{is_some}
 use Rattle.text.specs.Field.{fields, nth}
+use Rattle.text.specs.Number.{unsigned}
+use Rattle.text.specs.says.Refusal.{option_said, option_mapped}
 use Rattle.text.specs.Reader.{FieldStartsKeeps}
 use Rattle.text.specs.Reading.{Reading, read, refused, refusal_in, present, only, need, need_else}
-use Rattle.text.specs.says.Number.{says_u32}
-use Rattle.text.specs.declared.number.ParsedU32.{ParsedU32}
-use Rattle.text.specs.declared.number.ParsedU32.TheVariants.{Is, Not}
 use Rattle.text.proofs.ReaderStarts.{starts_in, starts_past}
-use Rattle.text.proofs.Readings.{only_is, only_else, otherwise_so, otherwise_not, need_so, need_not, refuses, accepts, sorts, there, missing, not_there, refusal_need}
+use Rattle.text.proofs.Readings.{only_is, only_else, either_so, either_not, need_so, need_not, refuses, accepts, sorts, there, missing, not_there, refusal_need}
 use Rattle.text.proofs.Tests.{never, not_some}
 use Rattle.text.proofs.Yields.{Yields, yields_only, yields_either, yields_need}
-use Rattle.numeral.specs.Numeral.{float_of, numeral_text}
+use Rattle.numeral.specs.Numeral.{float_of, is_numeral, numeral_text}
 use Rattle.numeral.specs.says.Numeral.{says, NumeralKeeps}
-use Rattle.numeral.specs.declared.Numeral.{Numeral}
-use Rattle.numeral.specs.declared.Numeral.TheVariants.{Value, Refused}
 use Rattle.unsolicited.specs.Date.{Date, date_of}
 use Rattle.unsolicited.specs.Gnss.{Report, not_enabled, no_fix, fix, or_zero, float_or_zero, count_or_zero, fix_on, fix_of, ugnsinf_fields, ugnsinf_text}
 use Rattle.unsolicited.specs.Places.{Places}
@@ -33,96 +33,24 @@ use Rattle.unsolicited.specs.Undated.{field_of, Undated}
 use Rattle.unsolicited.specs.Written.{Says}
 use Rattle.unsolicited.proofs.Written.{read_so}
 use Rattle.unsolicited.proofs.Written.{said as said-so}
-use Rattle.unsolicited.specs.says.Gnss.{float_says, count_says, date_says, date_option_says, DateKeeps}
+use Rattle.unsolicited.specs.says.Gnss.{date_says, date_option_says, fix_says, DateKeeps}
 use Rattle.unsolicited.specs.declared.ugnsinf.DateTime.{DateTime}
-use Rattle.unsolicited.specs.declared.ugnsinf.ParsedDateTime.{ParsedDateTime}
-use Rattle.unsolicited.specs.declared.ugnsinf.ParsedDateTime.TheVariants.{Is as IsDate, Not as NotDate}
-use Rattle.unsolicited.specs.declared.ugnsinf.Float.{Float as Field}
-use Rattle.unsolicited.specs.declared.ugnsinf.Count.{Count}
+use Rattle.unsolicited.specs.declared.ugnsinf.GnssFix.{GnssFix}
 
 -- what the numeral's answer says of a float field
-abbrev option_of : Numeral → Option Float
-option_of (Value x) = some x
-option_of Refused = none
-
-said : (o : Option Float) (r : Numeral) → says r ≡ need o read → option_of r ≡ o
-unfolding need_else
-said none Refused e = refl
-said none (Value x) e = never (cc)
-said (some y) Refused e = never (cc)
-said (some y) (Value x) e = cc
-
-module _ (s : List ℕ) (r : Numeral) (keeps : NumeralKeeps s r) where
-  pub float_read : (x : Float) → r ≡ Value x → some x ≡ float_of s
-  unfolding numeral_text
-  float_read x e = sym (ap option_of e) ∙ said (float_of s) r keeps.exact
-
-  pub float_none : r ≡ Refused → none ≡ float_of s
-  unfolding numeral_text
-  float_none e = sym (ap option_of e) ∙ said (float_of s) r keeps.exact
-
--- and the integer's of a count
-module _ (r : ParsedU32) (o : Option ℕ) (h : says_u32 r ≡ o) where
-  pub count_read : (n : ℕ) → r ≡ Is n → some n ≡ o
-  count_read n e = sym (ap says_u32 e) ∙ h
-
-  pub count_none : r ≡ Not → none ≡ o
-  count_none e = sym (ap says_u32 e) ∙ h
-
-  pub count_there : (n : ℕ) → r ≡ Is n → true ≡ present o
-  count_there n e = there o n (count_read n e)
-
-  pub count_missing : r ≡ Not → false ≡ present o
-  count_missing e = missing o (count_none e)
-
-pub without_fix : (o p : Option ℕ) → o ≡ p → ◌≡◌ {A = Reading Report} (read (no_fix o)) (read (no_fix p))
-without_fix o p e = rw e
-
--- a value that was read before it is asked for: the test t says whether it is there
-needed : {A B : Type 0} (t : Bool) (v : A) (o : Option A) (f : A → Reading B) → cond t (some v) none ≡ o → need o f ≡ only t (f v)
-unfolding need_else only
-needed true v o f e = rw (sym e)
-needed false v o f e = rw (sym e)
+pub float_said : (t s : List ℕ) (r : Std.Option Float) → NumeralKeeps t r → t ≡ s → option_said r ≡ float_of s
+unfolding numeral_text need_else
+float_said t s r keeps is = go (float_of t) r keeps.exact ∙ ap float_of is
+  where
+    go : (o : Option Float) (r : Std.Option Float) → says r ≡ need o read → option_said r ≡ o
+    go none Std.None e = refl
+    go none (Std.Some x) e = never (cc)
+    go (some y) Std.None e = never (cc)
+    go (some y) (Std.Some x) e = cc
 
 cond_and : {A : Type 0} (a b : Bool) (x y : A) → cond (a && b) x y ≡ cond a (cond b x y) y
 cond_and true b x y = refl
 cond_and false b x y = refl
-
-only_and : {A : Type 0} (a b : Bool) (r : Reading A) → only (a && b) r ≡ only a (only b r)
-unfolding only
-only_and a b r = cond_and a b r (refused 3)
-
--- `fix_on`: twelve of them
-module _ (d : Date) (fs : List (List ℕ)) (la lo al sp co hd pd vd : Field) (iv gn gl ra : Count)
-    (e1 : float_says la ≡ float_of (nth 3 fs)) (e2 : float_says lo ≡ float_of (nth 4 fs)) (e3 : float_says al ≡ float_of (nth 5 fs))
-    (e4 : float_says sp ≡ float_or_zero (nth 6 fs)) (e5 : float_says co ≡ float_or_zero (nth 7 fs))
-    (e6 : float_says hd ≡ float_or_zero (nth 10 fs)) (e7 : float_says pd ≡ float_or_zero (nth 11 fs)) (e8 : float_says vd ≡ float_or_zero (nth 12 fs))
-    (e9 : count_says iv ≡ count_or_zero (nth 14 fs)) (e10 : count_says gn ≡ count_or_zero (nth 15 fs)) (e11 : count_says gl ≡ count_or_zero (nth 16 fs)) (e12 : count_says ra ≡ count_or_zero (nth 18 fs)) where
-  abbrev good : Bool
-  good = (la.good && lo.good && al.good) && (sp.good && co.good) && (hd.good && pd.good && vd.good) && (iv.good && gn.good && gl.good && ra.good)
-
-  abbrev value : Report
-  value = fix (record {
-    date_time = d;
-    latitude = la.value;
-    longitude = lo.value;
-    altitude = al.value;
-    hdop = hd.value;
-    pdop = pd.value;
-    vdop = vd.value;
-    speed_over_ground = sp.value;
-    course_over_ground = co.value;
-    sat_gps_in_view = iv.value;
-    sat_gnss_used = gn.value;
-    sat_glonass_used = gl.value;
-    signal_noise_ratio = ra.value;
-  })
-
-  pub fix_is : only good (read value) ≡ fix_on d fs
-  unfolding fix_on
-  fix_is =
-      rw (needed la.good la.value _ _ e1, needed lo.good lo.value _ _ e2, needed al.good al.value _ _ e3, needed sp.good sp.value _ _ e4, needed co.good co.value _ _ e5, needed hd.good hd.value _ _ e6, needed pd.good pd.value _ _ e7, needed vd.good vd.value _ _ e8, needed iv.good iv.value _ _ e9, needed gn.good gn.value _ _ e10, needed gl.good gl.value _ _ e11, needed ra.good ra.value _ _ e12)
-      (simp only_and)
 
 -- `refusal_on`: of the same twelve, whether each is there
 asked : {A : Type 0} (t : Bool) (j : ℕ) (o : Option A) (f : A → Reading Report) → t ≡ present o → ((a : A) → j ≡ refusal_in (f a)) → cond t j 3 ≡ refusal_in (need o f)
@@ -140,35 +68,44 @@ module _ (fs : List (List ℕ)) (la lo al sp co hd pd vd iv gn gl ra : Bool)
       (asked la _ _ _ e1 (λ a. asked lo _ _ _ e2 (λ b. asked al _ _ _ e3 (λ c. asked sp _ _ _ e4 (λ d. asked co _ _ _ e5 (λ e. asked hd _ _ _ e6 (λ f.
       asked pd _ _ _ e7 (λ g. asked vd _ _ _ e8 (λ h. asked iv _ _ _ e9 (λ i. asked gn _ _ _ e10 (λ j. asked gl _ _ _ e11 (λ k. asked ra _ _ _ e12 (λ l. refl)))))))))))))
 
--- `gnss_fix`: the field under the name t, and what `DateTime::new` answers to it
-module _ (fs : List (List ℕ)) (t : List ℕ) (r : ParsedDateTime) (keeps : DateKeeps t r) (is : t ≡ nth 2 fs) where
-  date_is : (o : ParsedDateTime) → r ≡ o → date_option_says o ≡ date_of (nth 2 fs)
-  date_is o e = sym (ap date_option_says e) ∙ keeps ∙ ap date_of is
+-- `gnss_fix`: what `DateTime::new` answers to the field under the name t, and what is read then
+module _ (fs : List (List ℕ)) (t : List ℕ) (o : Std.Option DateTime) (keeps : DateKeeps t o) (is : t ≡ nth 2 fs) where
+  pub date_is : date_option_says o ≡ date_of (nth 2 fs)
+  date_is = keeps ∙ ap date_of is
 
-  pub with_date : (d : DateTime) → r ≡ IsDate d → (q : Reading Report) → q ≡ fix_on (date_says d) fs → q ≡ fix_of fs
+  pub undated_fix : o ≡ Std.None → refused 13 ≡ fix_of fs
   unfolding fix_of
-  with_date d e q h = need_so 13 (date_of (nth 2 fs)) (date_says d) _ q (date_is (IsDate d) e) h
+  undated_fix e = need_not 13 (date_of (nth 2 fs)) _ (ap date_option_says (sym e) ∙ date_is)
 
-  pub without_date : r ≡ NotDate → refused 13 ≡ fix_of fs
+  pub dated_fix : (d : DateTime) → o ≡ Std.Some d → (q : Reading Report) → q ≡ fix_on (date_says d) fs → q ≡ fix_of fs
   unfolding fix_of
-  without_date e = need_not 13 (date_of (nth 2 fs)) _ (date_is NotDate e)
+  dated_fix d e q h = need_so 13 (date_of (nth 2 fs)) (date_says d) _ q (ap date_option_says (sym e) ∙ date_is) h
 
-  -- and where it is only asked for
-  pub dated : (d : DateTime) → r ≡ IsDate d → true ≡ present (date_of (nth 2 fs))
-  dated d e = there (date_of (nth 2 fs)) (date_says d) (date_is (IsDate d) e)
+-- the fix that the code has as m
+module _ (x : Reading Report) (m : Std.Option GnssFix) (said : need (option_mapped fix_says m) (λ f. read (fix f)) ≡ x) where
+  pub fix_none : m ≡ Std.None → refused 3 ≡ x
+  unfolding need_else
+  fix_none e = rw e at said
 
-  pub undated_so : r ≡ NotDate → false ≡ present (date_of (nth 2 fs))
-  undated_so e = missing (date_of (nth 2 fs)) (date_is NotDate e)
+  pub fix_some : (f : GnssFix) → m ≡ Std.Some f → read (fix (fix_says f)) ≡ x
+  unfolding need_else
+  fix_some f e = rw e at said
 
--- `report_refusal`: the code's answer x, whether there is a date, and the refusal k of what follows, whichever date that is
-module _ (fs : List (List ℕ)) (x : Bool) (is : x ≡ present (date_of (nth 2 fs))) where
-  pub refused_undated : not x ≡ true → 13 ≡ refusal_in (fix_of fs)
-  unfolding fix_of
-  refused_undated h = refuses _ 13 (need_not 13 (date_of (nth 2 fs)) _ (not_there _ (sym is ∙ not-true x h)))
+-- `report_refusal`: whether there is a date, and the refusal k of what follows, whichever date that is
+module _ (fs : List (List ℕ)) (o : Std.Option DateTime) (said : date_option_says o ≡ date_of (nth 2 fs)) where
+  pub undated_refusal : is_some o ≡ false → 13 ≡ refusal_in (fix_of fs)
+  undated_refusal h = go o said h
+    where
+      go : (o : Std.Option DateTime) → date_option_says o ≡ date_of (nth 2 fs) → is_some o ≡ false → 13 ≡ refusal_in (fix_of fs)
+      go Std.None said h = ap refusal_in (undated_fix fs (nth 2 fs) Std.None said refl refl)
+      go (Std.Some d) said h = never (cc)
 
-  pub refused_on : (k : ℕ) → not x ≡ false → ((d : Date) → k ≡ refusal_in (fix_on d fs)) → k ≡ refusal_in (fix_of fs)
-  unfolding fix_of
-  refused_on k h e = ap (λ (y : Bool). cond y k 13) (sym (not-false x h) ∙ is) ∙ refusal_need 13 k (date_of (nth 2 fs)) _ e
+  pub dated_refusal : is_some o ≡ true → (k : ℕ) → ((d : Date) → k ≡ refusal_in (fix_on d fs)) → k ≡ refusal_in (fix_of fs)
+  dated_refusal h k f = go o said h
+    where
+      go : (o : Std.Option DateTime) → date_option_says o ≡ date_of (nth 2 fs) → is_some o ≡ true → k ≡ refusal_in (fix_of fs)
+      go Std.None said h = never (cc)
+      go (Std.Some d) said h = f (date_says d) ∙ ap refusal_in (dated_fix fs (nth 2 fs) (Std.Some d) said refl d refl _ refl)
 
 -- a field that may be empty, which the code has under the name t
 module _ {A : Type 0} (z : A) (reads : List ℕ → Option A) (t s : List ℕ) (is : t ≡ s) where
@@ -191,36 +128,49 @@ pub float_empty : (t s : List ℕ) → t ≡ s → length t ≡ 0 → some (of_b
 unfolding float_or_zero of_bits of_fields
 float_empty t s is h = empty (fin false 0 (pos 0)) float_of t s is h
 
+pub float_filled : (t s : List ℕ) (r : Std.Option Float) → NumeralKeeps t r → t ≡ s → ¬ length t ≡ 0 → option_said r ≡ float_or_zero s
+unfolding float_or_zero
+float_filled t s r keeps is h = filled (fin false 0 (pos 0)) float_of t s is _ h (float_said t t r keeps refl)
+
+pub readable_empty : (t s : List ℕ) → t ≡ s → length t ≡ 0 → true ≡ present (float_or_zero s)
+unfolding float_or_zero
+readable_empty t s is h = may_be_empty (fin false 0 (pos 0)) float_of t s is h
+
+pub readable_filled : (t s : List ℕ) (x : Bool) → x ≡ is_numeral t → t ≡ s → ¬ length t ≡ 0 → x ≡ present (float_or_zero s)
+unfolding float_or_zero is_numeral
+readable_filled t s x e is h = else_readable (fin false 0 (pos 0)) float_of t s is x h e
+
 -- the places of all fields, found once: exactly 21 of them
 module _ (s ps : List ℕ) (starts : FieldStartsKeeps s ps) where
-  pub too_few : length s < get_or ps 20 0 → refused 3 ≡ ugnsinf_fields (fields 44 s)
-  unfolding ugnsinf_fields
-  too_few h = only_else (length (fields 44 s)) (length (fields 44 s)) 21 _ refl (λ e. let l = starts_past s ps starts 20 (omega arith) h in omega arith)
+  pub too_few : length s < get_or ps 20 0 → length (fields 44 s) ≡ 21 → ⊥
+  too_few h e = let l = starts_past s ps starts 20 (omega arith) h in omega arith
 
-  pub too_many : get_or ps 21 0 ≤ length s → refused 3 ≡ ugnsinf_fields (fields 44 s)
-  unfolding ugnsinf_fields
-  too_many h = only_else (length (fields 44 s)) (length (fields 44 s)) 21 _ refl (λ e. let l = starts_in s ps starts 21 (omega arith) h in omega arith)
+  pub too_many : get_or ps 21 0 ≤ length s → length (fields 44 s) ≡ 21 → ⊥
+  too_many h e = let l = starts_in s ps starts 21 (omega arith) h in omega arith
 
   pub all_there : get_or ps 20 0 ≤ length s → length s < get_or ps 21 0 → Places ps s
   all_there h l = let a = starts_in s ps starts 20 (omega arith) h in let b = starts_past s ps starts 21 (omega arith) l in record { count = omega arith; starts = starts }
 
-  pub there_so : get_or ps 20 0 ≤ length s → length s < get_or ps 21 0 → (r q : Reading Report) → q ≡ r → q ≡ only (eqb (length (fields 44 s)) 21) r
-  there_so h l r q e = only_is (length (fields 44 s)) (length (fields 44 s)) 21 r q refl (all_there h l).count e
+-- the report of so many
+module _ (fs : List (List ℕ)) where
+  pub not_21 : (length fs ≡ 21 → ⊥) → refused 3 ≡ ugnsinf_fields fs
+  unfolding ugnsinf_fields
+  not_21 h = only_else (length fs) (length fs) 21 _ refl h
 
-  -- the refusal alone, by the code's tests x and y of the two statuses
-  module _ (h : get_or ps 20 0 ≤ length s) (l : length s < get_or ps 21 0) (x : Bool) (run : x ≡ same (nth 0 (fields 44 s)) (bytes "1")) where
-    pub sort_off : not x ≡ true → 0 ≡ refusal_in (ugnsinf_fields (fields 44 s))
+  -- by the code's tests x and y of the two statuses
+  module _ (h : length fs ≡ 21) (x : Bool) (run : x ≡ same (nth 0 fs) (bytes "1")) where
+    pub off : x ≡ false → read not_enabled ≡ ugnsinf_fields fs
     unfolding ugnsinf_fields
-    sort_off n = accepts _ not_enabled (there_so h l _ _ (otherwise_not _ x _ _ _ run n refl))
+    off n = only_is (length fs) (length fs) 21 _ _ refl h (either_not _ x _ _ _ run n refl)
 
-    module _ (on : not x ≡ false) (y : Bool) (status : y ≡ same (nth 1 (fields 44 s)) (bytes "1")) where
-      pub sort_without : not y ≡ true → 0 ≡ refusal_in (ugnsinf_fields (fields 44 s))
+    module _ (on : x ≡ true) (y : Bool) (status : y ≡ same (nth 1 fs) (bytes "1")) where
+      pub without_fix : y ≡ false → (o : Option ℕ) → o ≡ unsigned 10 4294967295 (nth 14 fs) → read (no_fix o) ≡ ugnsinf_fields fs
       unfolding ugnsinf_fields
-      sort_without n = accepts _ _ (there_so h l _ _ (otherwise_so _ x _ _ _ run on (otherwise_not _ y _ _ _ status n refl)))
+      without_fix n o e = only_is (length fs) (length fs) 21 _ _ refl h (either_so _ x _ _ _ run on (either_not _ y _ _ _ status n (rw e)))
 
-      pub sort_fix : (k : ℕ) → not y ≡ false → k ≡ refusal_in (fix_of (fields 44 s)) → k ≡ refusal_in (ugnsinf_fields (fields 44 s))
+      pub with_fix : y ≡ true → fix_of fs ≡ ugnsinf_fields fs
       unfolding ugnsinf_fields
-      sort_fix k n e = sorts _ k (fix_of (fields 44 s)) e (there_so h l _ _ (otherwise_so _ x _ _ _ run on (otherwise_so _ y _ _ _ status n refl)))
+      with_fix n = only_is (length fs) (length fs) 21 _ _ refl h (either_so _ x _ _ _ run on (either_so _ y _ _ _ status n refl))
 
 -- a report that is read has the date of its third field, where it has a fix; what is refused is refused with 3, and with 13 for want of such a date
 abbrev pub Dated : List ℕ → Report → Type 0

@@ -12,6 +12,7 @@ use Rattle.text.specs.Bytes.{bytes, starts_with}
 use Rattle.text.specs.Field.{fields}
 use Rattle.text.specs.Line.{line_check, checked}
 use Rattle.text.specs.Reading.{Reading, read, refused, only, either, need_else, mapped, each, first_of}
+use Rattle.std.proofs.Common.{Ok}
 use Rattle.text.proofs.Begins.{begins_with}
 use Rattle.text.proofs.LineLaws.{line_good, own_refusal}
 use Rattle.text.proofs.Tests.{never}
@@ -81,7 +82,7 @@ module _ (l : List ℕ) where
       → (r : Reading A) → r ≡ checked reader l → (r ≡ refused 13) ↔ ((line_check l ≡ 0) × Undated l)
   exactly reader only_so so r k = (
     λ e. let p = own_refusal reader l 13 (omega arith) (sym k ∙ e) in (p.0, only_so p.1),
-    λ h. k ∙ sym (line_good reader l 0 (sym h.0) (refused 13) refl (sym (so h.1))),
+    λ h. k ∙ sym (line_good reader l (Ok tt) (sym h.0) tt (refused 13) refl (sym (so h.1))),
   )
 
   pub fixes_dated : FixesDated l

@@ -1,4 +1,5 @@
-// The modem's unsolicited codes, a module for each file of the Rust's at_command/unsolicited, and their trial.
+// The modem's unsolicited codes, a module for each file of the Rust's at_command/unsolicited, and
+// their trial.
 #![tactic(auto)]
 
 mod calendar;
@@ -6,6 +7,7 @@ pub mod cereg;
 pub mod cgreg;
 pub mod creg;
 pub mod network_registration;
+mod prefix;
 pub mod straight;
 pub mod ugnsinf;
 
@@ -14,8 +16,9 @@ ghost use Rattle.text.specs.Gives.{Gives};
 ghost use Rattle.unsolicited.specs.Urc.{begins, urc_text};
 ghost use Rattle.unsolicited.specs.says.Urc.{says, UrcKeeps};
 
-use crate::network_registration::{NetworkRegistration, NetworkRegistrationAnswer};
-use crate::ugnsinf::{GnssReport, GnssReportAnswer};
+use crate::network_registration::NetworkRegistration;
+use crate::ugnsinf::GnssReport;
+use text::refusal::Refusal;
 use text::{bytes, line};
 
 #[derive(Clone, Copy)]
@@ -24,52 +27,38 @@ pub enum Urc {
     NetworkRegistration(NetworkRegistration),
 }
 
-#[derive(Clone, Copy)]
-pub enum UrcAnswer {
-    Value(Urc),
-    Refused(u8),
-}
-
 impl Urc {
     // The trial, without the line check.
-    pub(crate) fn from_checked(line: &[u8]) -> UrcAnswer
+    pub(crate) fn from_checked(line: &[u8]) -> Result<Urc, Refusal>
         ensures { says result ≡ urc_text line.now }
     {
-        let j = match GnssReport::from_checked(line) {
-            GnssReportAnswer::Value(report) => return UrcAnswer::Value(Urc::GnssReport(report)),
-            GnssReportAnswer::Refused(k) => k,
+        let refusal = match GnssReport::from_checked(line) {
+            Ok(report) => return Ok(Urc::GnssReport(report)),
+            Err(refusal) => refusal,
         };
         match NetworkRegistration::from_checked(line) {
-            NetworkRegistrationAnswer::Value(registration) => UrcAnswer::Value(
-                Urc::NetworkRegistration(registration),
-            ),
-            NetworkRegistrationAnswer::Refused(k) => UrcAnswer::Refused(line::worse_of(j, k)),
+            Ok(registration) => Ok(Urc::NetworkRegistration(registration)),
+            Err(later) => Err(refusal.worse(later)),
         }
     }
 
-    // Whether the line begins as an unsolicited one does: a caller need not ask the readers of any other.
+    // Whether the line begins as an unsolicited one does: a caller need not ask the readers of any
+    // other.
+    #[tactic(auto, unfolding(crate::specs::Urc::begins))]
     pub fn begins(line: &[u8]) -> bool
         ensures { Gives (begins line.now) result }
     {
-        if bytes::starts_with(line, b"+UGNSINF: ") {
-            return true;
-        }
-        if bytes::starts_with(line, b"+CREG: ") {
-            return true;
-        }
-        if bytes::starts_with(line, b"+CGREG: ") {
-            return true;
-        }
-        bytes::starts_with(line, b"+CEREG: ")
+        bytes::starts_with(line, b"+UGNSINF: ")
+            || bytes::starts_with(line, b"+CREG: ")
+            || bytes::starts_with(line, b"+CGREG: ")
+            || bytes::starts_with(line, b"+CEREG: ")
     }
 
-    pub fn from_line(line: &[u8]) -> UrcAnswer
+    #[tactic(auto, using(text::proofs::LineLaws::line_bad, text::proofs::LineLaws::line_good))]
+    pub fn from_line(line: &[u8]) -> Result<Urc, Refusal>
         ensures { UrcKeeps line.now result }
     {
-        let k = line::check_line(line);
-        if k != 0 {
-            return UrcAnswer::Refused(k);
-        }
+        line::check_line(line)?;
         Urc::from_checked(line)
     }
 }

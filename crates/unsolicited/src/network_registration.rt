@@ -1,8 +1,9 @@
 // The registration in the network: what +CREG, +CGREG and +CEREG share, and their trial.
-ghost use Rattle.std.specs.Prelude.{◌≡◌, cond, [], ◌∷◌, ◌≤◌};
+ghost use Rattle.std.specs.Prelude.{◌≡◌, [], ◌∷◌, ◌≤◌, length, drop, IfSome};
+ghost use Rattle.text.specs.Bytes.{starts_with};
 ghost use Rattle.text.specs.Field.{fields, nth};
-ghost use Rattle.text.specs.Reading.{present, refusal_in};
-ghost use Rattle.text.specs.says.Number.{says_u16, says_u32, says_i32};
+ghost use Rattle.text.specs.Reading.{only, refusal_in};
+ghost use Rattle.text.specs.says.Refusal.{option_said, refusal_said};
 ghost use Rattle.unsolicited.specs.Places.{status_place};
 ghost use Rattle.unsolicited.specs.Registration.{status_of, hex_in, registration_at, registration_fields, registration_text};
 ghost use Rattle.unsolicited.specs.says.Registration.{status_number, says, RegistrationKeeps};
@@ -10,10 +11,11 @@ ghost use Rattle.unsolicited.specs.says.Registration.{status_number, says, Regis
 use crate::cereg::CEReg;
 use crate::cgreg::CGReg;
 use crate::creg::CReg;
-use text::number::{ParsedI32, ParsedU16, ParsedU32};
+use crate::prefix;
+use text::refusal::Refusal;
 use text::{field, line, number, part, reader};
 
-#[derive(Clone, Copy)]
+#[derive(Clone, Copy, Debug, PartialEq, Eq)]
 pub enum RegistrationStatus {
     NotRegistered,
     RegisteredHome,
@@ -23,141 +25,116 @@ pub enum RegistrationStatus {
     RegisteredRoaming,
 }
 
-#[derive(Clone, Copy)]
+#[derive(Clone, Copy, Debug, PartialEq, Eq)]
 pub struct NetworkRegistration {
     pub status: RegistrationStatus,
     // Location area code.
-    pub lac: ParsedU16,
+    pub lac: Option<u16>,
     // Cell ID.
-    pub ci: ParsedU32,
+    pub ci: Option<u32>,
 }
 
-#[derive(Clone, Copy)]
-pub enum NetworkRegistrationAnswer {
-    Value(NetworkRegistration),
-    Refused(u8),
-}
-
+#[tactic(auto, using(crate::proofs::Registrations::status_other), unfolding(crate::specs::Registration::status_of))]
 pub(crate) fn status_of(n: i32) -> RegistrationStatus
     ensures { status_number result ≡ status_of n }
 {
-    if n == 1 {
-        return RegistrationStatus::RegisteredHome;
+    match n {
+        1 => RegistrationStatus::RegisteredHome,
+        2 => RegistrationStatus::Searching,
+        3 => RegistrationStatus::RegistrationDenied,
+        4 => RegistrationStatus::Unknown,
+        5 => RegistrationStatus::RegisteredRoaming,
+        _ => RegistrationStatus::NotRegistered,
     }
-    if n == 2 {
-        return RegistrationStatus::Searching;
-    }
-    if n == 3 {
-        return RegistrationStatus::RegistrationDenied;
-    }
-    if n == 4 {
-        return RegistrationStatus::Unknown;
-    }
-    if n == 5 {
-        return RegistrationStatus::RegisteredRoaming;
-    }
-    RegistrationStatus::NotRegistered
 }
 
-fn lac_at(rest: &[u8], n: usize) -> ParsedU16
-    ensures { says_u16 result ≡ hex_in 65535 (nth n (fields 44 rest.now)) }
+#[tactic(auto, unfolding(crate::specs::Registration::hex_in))]
+fn lac_at(rest: &[u8], n: usize) -> Option<u16>
+    ensures { option_said result ≡ hex_in 65535 (nth n (fields 44 rest.now)) }
 {
     number::parse_hex_u16(part::trim(reader::nth_field(rest, n), b'"'))
 }
 
-fn ci_at(rest: &[u8], n: usize) -> ParsedU32
-    ensures { says_u32 result ≡ hex_in 4294967295 (nth n (fields 44 rest.now)) }
+#[tactic(auto, unfolding(crate::specs::Registration::hex_in))]
+fn ci_at(rest: &[u8], n: usize) -> Option<u32>
+    ensures { option_said result ≡ hex_in 4294967295 (nth n (fields 44 rest.now)) }
 {
     number::parse_hex_u32(part::trim(reader::nth_field(rest, n), b'"'))
 }
 
 // The status in field n, then lac and ci.
-fn registration_at(rest: &[u8], n: usize) -> NetworkRegistrationAnswer
+#[tactic(auto, using(text::proofs::Numbers::read_signed, text::proofs::Numbers::miss_signed), unfolding(crate::specs::Registration::registration_at))]
+fn registration_at(rest: &[u8], n: usize) -> Result<NetworkRegistration, Refusal>
     requires { n ≤ 1 }
     ensures { says result ≡ registration_at n (fields 44 rest.now) }
 {
-    let ParsedI32::Is(status) = number::parse_i32(reader::nth_field(rest, n)) else {
-        return NetworkRegistrationAnswer::Refused(3);
-    };
-    NetworkRegistrationAnswer::Value(NetworkRegistration {
+    let status = number::parse_i32(reader::nth_field(rest, n)).ok_or(Refusal::NotThisLine)?;
+    Ok(NetworkRegistration {
         status: status_of(status),
         lac: lac_at(rest, n + 1),
         ci: ci_at(rest, n + 2),
     })
 }
 
-// The field of so many that is the status: of 1 or 4 the first, of 2, 5 or `longest` the second; any other count is refused, and has 2.
-fn status_place(count: usize, longest: usize) -> usize
-    ensures { result ≡ status_place (2 ∷ 5 ∷ longest ∷ []) count }
+// The field of so many that is the status: of 1 or 4 the first, of 2, 5 or `longest` the second; any
+// other count is refused.
+#[tactic(auto, using(crate::proofs::Registrations::place_first, crate::proofs::Registrations::place_second, crate::proofs::Registrations::place_none))]
+fn status_place(count: usize, longest: usize) -> Option<usize>
+    ensures place { option_said result ≡ status_place (2 ∷ 5 ∷ longest ∷ []) count }
+    ensures low { IfSome result (λ n. n ≤ 1) }
 {
     if (count == 1) | (count == 4) {
-        return 0;
+        return Some(0);
     }
     if (count == 2) | (count == 5) | (count == longest) {
-        return 1;
+        return Some(1);
     }
-    2
+    None
 }
 
-// Reads what follows the prefix.
-pub(crate) fn registration(rest: &[u8], longest: usize) -> NetworkRegistrationAnswer
-    ensures { says result ≡ registration_fields (2 ∷ 5 ∷ longest ∷ []) (fields 44 rest.now) }
+// Reads a line that begins with the prefix and has one to `longest` fields.
+pub(crate) fn registration(
+    line: &[u8],
+    prefix: &[u8],
+    longest: usize,
+) -> Result<NetworkRegistration, Refusal>
+    ensures { says result ≡ only (starts_with prefix.now line.now)
+        (registration_fields (2 ∷ 5 ∷ longest ∷ []) (fields 44 (drop (length prefix.now) line.now))) }
 {
-    let n = status_place(field::field_count(rest, b','), longest);
-    if 1 < n {
-        return NetworkRegistrationAnswer::Refused(3);
-    }
+    let rest = prefix::behind(line, prefix)?;
+    let n = status_place(field::field_count(rest, b','), longest).ok_or(Refusal::NotThisLine)?;
     registration_at(rest, n)
 }
 
-// The refusal of a line by its status alone: what else is unreadable does not refuse it.
-pub(crate) fn status_refusal(status: ParsedI32) -> u8
-    ensures { result ≡ cond (present (says_i32 status)) 0 3 }
+// As `registration`, with every value forgotten: what is unreadable beside the status refuses nothing.
+pub(crate) fn refusal(line: &[u8], prefix: &[u8], longest: usize) -> Result<(), Refusal>
+    ensures { refusal_said result ≡ refusal_in (only (starts_with prefix.now line.now)
+        (registration_fields (2 ∷ 5 ∷ longest ∷ []) (fields 44 (drop (length prefix.now) line.now)))) }
 {
-    match status {
-        ParsedI32::Is(_) => 0,
-        ParsedI32::Not => 3,
-    }
-}
-
-fn refusal_at(rest: &[u8], n: usize) -> u8
-    requires { n ≤ 1 }
-    ensures { result ≡ refusal_in (registration_at n (fields 44 rest.now)) }
-{
-    status_refusal(number::parse_i32(reader::nth_field(rest, n)))
-}
-
-// As `registration`, with every value forgotten.
-pub(crate) fn refusal(rest: &[u8], longest: usize) -> u8
-    ensures { result ≡ refusal_in (registration_fields (2 ∷ 5 ∷ longest ∷ []) (fields 44 rest.now)) }
-{
-    let n = status_place(field::field_count(rest, b','), longest);
-    if 1 < n {
-        return 3;
-    }
-    refusal_at(rest, n)
+    let rest = prefix::behind(line, prefix)?;
+    let n = status_place(field::field_count(rest, b','), longest).ok_or(Refusal::NotThisLine)?;
+    number::parse_i32(reader::nth_field(rest, n)).ok_or(Refusal::NotThisLine)?;
+    Ok(())
 }
 
 impl NetworkRegistration {
-    pub(crate) fn from_checked(line: &[u8]) -> NetworkRegistrationAnswer
+    pub(crate) fn from_checked(line: &[u8]) -> Result<NetworkRegistration, Refusal>
         ensures { says result ≡ registration_text line.now }
     {
-        if let NetworkRegistrationAnswer::Value(value) = CReg::from_checked(line) {
-            return NetworkRegistrationAnswer::Value(value);
+        if let Ok(value) = CReg::from_checked(line) {
+            return Ok(value);
         }
-        if let NetworkRegistrationAnswer::Value(value) = CGReg::from_checked(line) {
-            return NetworkRegistrationAnswer::Value(value);
+        if let Ok(value) = CGReg::from_checked(line) {
+            return Ok(value);
         }
         CEReg::from_checked(line)
     }
 
-    pub fn from_line(line: &[u8]) -> NetworkRegistrationAnswer
+    #[tactic(auto, using(text::proofs::LineLaws::line_bad, text::proofs::LineLaws::line_good))]
+    pub fn from_line(line: &[u8]) -> Result<NetworkRegistration, Refusal>
         ensures { RegistrationKeeps registration_text line.now result }
     {
-        let k = line::check_line(line);
-        if k != 0 {
-            return NetworkRegistrationAnswer::Refused(k);
-        }
+        line::check_line(line)?;
         NetworkRegistration::from_checked(line)
     }
 }

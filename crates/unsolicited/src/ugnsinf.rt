@@ -1,20 +1,19 @@
 // +UGNSINF: the report of the satellite receiver.
-ghost use Rattle.std.specs.Prelude.{◌≡◌, true, cond, ◌+◌, ◌≤◌, ◌<◌, length};
+ghost use Rattle.std.specs.Prelude.{◌≡◌, true, ◌+◌, ◌≤◌, ◌<◌, length, cond, MatchResult};
 ghost use Rattle.text.specs.Bytes.{bytes, same, all_digits};
 ghost use Rattle.text.specs.Field.{fields, nth};
-ghost use Rattle.text.specs.Reading.{read, only, present, refusal_in};
+ghost use Rattle.text.specs.Reading.{read, need, present, refusal_in};
+ghost use Rattle.text.specs.says.Refusal.{number_of, option_said, option_mapped, refusal_said};
 ghost use Rattle.numeral.specs.Numeral.{float_of};
-ghost use Rattle.unsolicited.specs.Date.{Date, figures, date_in, date_of, existing, is_fraction};
+ghost use Rattle.unsolicited.specs.Date.{Date, figures, date_in, existing, is_fraction};
 ghost use Rattle.unsolicited.specs.Places.{Places};
 ghost use Rattle.unsolicited.specs.Gnss.{fix, float_or_zero, count_or_zero, fix_on, fix_of, ugnsinf_fields, ugnsinf_text};
-ghost use Rattle.unsolicited.specs.says.Gnss.{float_says, count_says, date_says, date_option_says, fix_says, says, DateKeeps, GnssReportKeeps};
 
-use crate::calendar;
-use numeral::Numeral;
-use text::number::ParsedU32;
+use crate::{calendar, prefix};
+use text::refusal::Refusal;
 use text::{bytes, digit, line, number, part, reader};
 
-#[derive(Clone, Copy)]
+#[derive(Clone, Copy, Debug, PartialEq, Eq)]
 pub struct DateTime {
     pub year: u16,
     pub month: u8,
@@ -24,88 +23,94 @@ pub struct DateTime {
     pub second: u8,
 }
 
+// The fourteen digits of a date.
 #[derive(Clone, Copy)]
-pub enum ParsedDateTime {
-    Is(DateTime),
-    Not,
+struct Digits<'a> {
+    text: &'a [u8; 14],
+    ghost are_digits: { all_digits text.now ≡ true },
+    ghost fourteen: { length text.now ≡ 14 },
 }
 
-// The number that the two digits from `at` on are.
-fn pair(s: &[u8], at: usize) -> u8
-    requires { (all_digits s.now ≡ true) × (at + 2 ≤ length s.now) }
-    ensures { (result ≡ figures at (at + 2) s.now) × (result ≤ 99) }
-{
-    10 * digit::value(s[at]) + digit::value(s[at + 1])
-}
+impl Digits<'_> {
+    ghost use Rattle.unsolicited.specs.says.Gnss.{date_says};
 
-// The number that the first four digits are.
-fn year_of(s: &[u8]) -> u16
-    requires { (all_digits s.now ≡ true) × (4 ≤ length s.now) }
-    ensures { result ≡ figures 0 4 s.now }
-{
-    100 * pair(s, 0) as u16 + pair(s, 2) as u16
-}
-
-// What fourteen digits say.
-fn date_in(s: &[u8]) -> DateTime
-    requires { (all_digits s.now ≡ true) × (14 ≤ length s.now) }
-    ensures { date_says result ≡ date_in s.now }
-{
-    DateTime {
-        year: year_of(s),
-        month: pair(s, 4),
-        day: pair(s, 6),
-        hour: pair(s, 8),
-        minute: pair(s, 10),
-        second: pair(s, 12),
+    // The number that the two digits from `at` on are.
+    #[tactic(auto, using(crate::proofs::Dates::tens, crate::proofs::Dates::units, crate::proofs::Dates::pair_is))]
+    fn pair(self, at: usize) -> u8
+        requires { at + 2 ≤ 14 }
+        ensures value { result ≡ figures at (at + 2) self.entry.text.now }
+        ensures low { result ≤ 99 }
+    {
+        10 * digit::value(self.text[at]) + digit::value(self.text[at + 1])
     }
-}
 
-// The date, if there is such a day and time in the years 1980 to 2099; no month that is none has a day.
-fn existing_date(date: DateTime) -> ParsedDateTime
-    ensures { date_option_says result ≡ existing (date_says date) }
-{
-    let days = calendar::days_in(date.year, date.month);
-    let year = (1980 <= date.year) & (date.year <= 2099);
-    let day = (1 <= date.day) & (date.day <= days);
-    let time = (date.hour <= 23) & (date.minute <= 59) & (date.second <= 59);
-    if year & day & time {
-        return ParsedDateTime::Is(date);
+    // The number that the first four are.
+    #[tactic(auto, using(crate::proofs::Dates::year_is))]
+    fn year(self) -> u16
+        ensures { result ≡ figures 0 4 self.entry.text.now }
+    {
+        100 * self.pair(0) as u16 + self.pair(2) as u16
     }
-    ParsedDateTime::Not
+
+    // What all of them say.
+    #[tactic(auto, unfolding(crate::specs::Date::date_in))]
+    fn date(self) -> DateTime
+        ensures { date_says result ≡ date_in self.entry.text.now }
+    {
+        DateTime {
+            year: self.year(),
+            month: self.pair(4),
+            day: self.pair(6),
+            hour: self.pair(8),
+            minute: self.pair(10),
+            second: self.pair(12),
+        }
+    }
 }
 
 // Whether it is nothing, or a point and one or more digits.
+#[tactic(auto, using(crate::proofs::Dates::none_left, crate::proofs::Dates::one_left, crate::proofs::Dates::no_point, crate::proofs::Dates::behind_point))]
 fn is_fraction(s: &[u8]) -> bool
     ensures { result ≡ is_fraction s.now }
 {
-    if s.len() == 0 {
-        return true;
+    match s {
+        [] => true,
+        [b'.', digits @ ..] => !digits.is_empty() && bytes::all_digits(digits),
+        _ => false,
     }
-    if s.len() < 2 {
-        return false;
-    }
-    if s[0] != b'.' {
-        return false;
-    }
-    bytes::all_digits(part::skip(s, 1))
 }
 
 impl DateTime {
-    pub fn new(time_string: &[u8]) -> ParsedDateTime
+    ghost use Rattle.unsolicited.specs.says.Gnss.{date_says, date_option_says, DateKeeps};
+
+    // The date, if there is such a day and time in the years 1980 to 2099; no month that is none has
+    // a day.
+    #[tactic(auto, using(crate::proofs::Dates::it_exists, crate::proofs::Dates::exists_not))]
+    fn existing_date(self) -> Option<DateTime>
+        ensures { date_option_says result ≡ existing (date_says self) }
+    {
+        let days = calendar::days_in(self.year, self.month);
+        let year = (1980 <= self.year) & (self.year <= 2099);
+        let day = (1 <= self.day) & (self.day <= days);
+        let time = (self.hour <= 23) & (self.minute <= 59) & (self.second <= 59);
+        if year & day & time {
+            return Some(self);
+        }
+        None
+    }
+
+    #[tactic(auto, using(crate::proofs::Dates::too_short, crate::proofs::Dates::no_digits, crate::proofs::Dates::no_fraction, crate::proofs::Dates::dated))]
+    pub fn new(time_string: &[u8]) -> Option<DateTime>
         ensures { DateKeeps time_string.now result }
     {
-        if time_string.len() < 14 {
-            return ParsedDateTime::Not;
+        let (text, fraction) = time_string.split_first_chunk::<14>()?;
+        if !bytes::all_digits(text) {
+            return None;
         }
-        let digits = part::part(time_string, 0, 14);
-        if !bytes::all_digits(digits) {
-            return ParsedDateTime::Not;
+        if !is_fraction(fraction) {
+            return None;
         }
-        if !is_fraction(part::skip(time_string, 14)) {
-            return ParsedDateTime::Not;
-        }
-        existing_date(date_in(digits))
+        Digits { text }.date().existing_date()
     }
 }
 
@@ -129,313 +134,232 @@ pub struct GnssFix {
 #[derive(Clone, Copy)]
 pub enum GnssReport {
     NotEnabled,
-    NoFix { sat_gps_view: ParsedU32 },
+    NoFix { sat_gps_view: Option<u32> },
     Fix(GnssFix),
 }
 
-#[derive(Clone, Copy)]
-pub enum GnssReportAnswer {
-    Value(GnssReport),
-    Refused(u8),
+// What follows the prefix, and where each of its 21 fields begins, found once for all of them.
+#[derive(Drop)]
+struct Fields<'a> {
+    rest: &'a [u8],
+    places: [usize; 22],
+    ghost found: { Places places rest.now },
 }
 
-fn field_at<'a>(rest: &'a [u8], places: &[usize; 22], n: usize) -> &'a [u8]
-    requires { Places places.now rest.now × (n < 21) }
-    ensures { result.now ≡ nth n (fields 44 rest.now) }
-{
-    let at = places[n];
-    let next = places[n + 1];
-    part::part(rest, at, next - 1)
-}
+impl<'a> Fields<'a> {
+    ghost use Rattle.unsolicited.specs.says.Gnss.{date_says, fix_says, says};
 
-fn is_one(rest: &[u8], places: &[usize; 22], n: usize) -> bool
-    requires { Places places.now rest.now × (n < 21) }
-    ensures { result ≡ same (nth n (fields 44 rest.now)) (bytes "1") }
-{
-    bytes::is_text(field_at(rest, places, n), b"1")
-}
-
-// What a field says, and whether it is readable.
-#[derive(Clone, Copy)]
-struct Float {
-    good: bool,
-    value: f32,
-}
-
-#[derive(Clone, Copy)]
-struct Count {
-    good: bool,
-    value: u32,
-}
-
-fn float_of(t: &[u8]) -> Float
-    ensures { float_says result ≡ float_of t.now }
-{
-    match numeral::read(t) {
-        Numeral::Value(value) => Float { good: true, value },
-        Numeral::Refused => Float {
-            good: false,
-            value: 0.0,
-        },
+    // There are exactly 21 fields where the last begins within the text and a next one does not.
+    #[tactic(auto, using(crate::proofs::Reports::too_few, crate::proofs::Reports::too_many, crate::proofs::Reports::all_there))]
+    fn new(rest: &'a [u8]) -> Result<Fields<'a>, Refusal>
+        ensures { MatchResult result
+            (λ found. found.rest.now ≡ rest.now)
+            (λ k. (length (fields 44 rest.now) ≡ 21 → ⊥) × (number_of k ≡ 3)) }
+    {
+        let places = reader::field_starts(rest);
+        if rest.len() < places[20] {
+            return Err(Refusal::NotThisLine);
+        }
+        if places[21] <= rest.len() {
+            return Err(Refusal::NotThisLine);
+        }
+        Ok(Fields { rest, places })
     }
-}
 
-fn float_at(rest: &[u8], places: &[usize; 22], n: usize) -> Float
-    requires { Places places.now rest.now × (n < 21) }
-    ensures { float_says result ≡ float_of (nth n (fields 44 rest.now)) }
-{
-    float_of(field_at(rest, places, n))
-}
-
-fn float_or_zero(rest: &[u8], places: &[usize; 22], n: usize) -> Float
-    requires { Places places.now rest.now × (n < 21) }
-    ensures { float_says result ≡ float_or_zero (nth n (fields 44 rest.now)) }
-{
-    let t = field_at(rest, places, n);
-    if t.len() == 0 {
-        return Float {
-            good: true,
-            value: 0.0,
-        };
+    fn field(&self, n: usize) -> &'a [u8]
+        requires { n < 21 }
+        ensures { result.now ≡ nth n (fields 44 self.now.rest.now) }
+    {
+        part::part(self.rest, self.places[n], self.places[n + 1] - 1)
     }
-    float_of(t)
-}
 
-fn count_or_zero(rest: &[u8], places: &[usize; 22], n: usize) -> Count
-    requires { Places places.now rest.now × (n < 21) }
-    ensures { count_says result ≡ count_or_zero (nth n (fields 44 rest.now)) }
-{
-    let t = field_at(rest, places, n);
-    if t.len() == 0 {
-        return Count {
-            good: true,
-            value: 0,
-        };
+    fn is_one(&self, n: usize) -> bool
+        requires { n < 21 }
+        ensures { result ≡ same (nth n (fields 44 self.now.rest.now)) (bytes "1") }
+    {
+        bytes::is_text(self.field(n), b"1")
     }
-    match number::parse_u32(t) {
-        ParsedU32::Is(value) => Count { good: true, value },
-        ParsedU32::Not => Count {
-            good: false,
-            value: 0,
-        },
-    }
-}
 
-// The fix, if all its values were readable.
-fn fix_if(good: bool, values: GnssFix) -> GnssReportAnswer
-    ensures { says result ≡ only good (read (fix (fix_says values))) }
-{
-    if good {
-        return GnssReportAnswer::Value(GnssReport::Fix(values));
+    #[tactic(auto, using(crate::proofs::Reports::float_said))]
+    fn float(&self, n: usize) -> Option<f32>
+        requires { n < 21 }
+        ensures { option_said result ≡ float_of (nth n (fields 44 self.now.rest.now)) }
+    {
+        numeral::read(self.field(n))
     }
-    GnssReportAnswer::Refused(3)
-}
 
-// All values behind the date are read before they are asked for: one that is unreadable refuses the line, whichever it is.
-fn fix_on(date_time: DateTime, rest: &[u8], places: &[usize; 22]) -> GnssReportAnswer
-    requires { Places places.now rest.now }
-    ensures { says result ≡ fix_on (date_says date_time) (fields 44 rest.now) }
-{
-    let latitude = float_at(rest, places, 3);
-    let longitude = float_at(rest, places, 4);
-    let altitude = float_at(rest, places, 5);
-    let speed = float_or_zero(rest, places, 6);
-    let course = float_or_zero(rest, places, 7);
-    let hdop = float_or_zero(rest, places, 10);
-    let pdop = float_or_zero(rest, places, 11);
-    let vdop = float_or_zero(rest, places, 12);
-    let in_view = count_or_zero(rest, places, 14);
-    let gnss = count_or_zero(rest, places, 15);
-    let glonass = count_or_zero(rest, places, 16);
-    let ratio = count_or_zero(rest, places, 18);
-    let position = latitude.good & longitude.good & altitude.good;
-    let motion = speed.good & course.good;
-    let dilution = hdop.good & pdop.good & vdop.good;
-    let satellites = in_view.good & gnss.good & glonass.good & ratio.good;
-    fix_if(
-        position & motion & dilution & satellites,
-        GnssFix {
+    // An empty field is zero.
+    #[tactic(auto, using(crate::proofs::Reports::float_empty, crate::proofs::Reports::float_filled))]
+    fn float_or_zero(&self, n: usize) -> Option<f32>
+        requires { n < 21 }
+        ensures { option_said result ≡ float_or_zero (nth n (fields 44 self.now.rest.now)) }
+    {
+        let text = self.field(n);
+        if text.is_empty() {
+            return Some(0.0);
+        }
+        numeral::read(text)
+    }
+
+    #[tactic(auto, using(crate::proofs::Reports::empty, crate::proofs::Reports::filled), unfolding(crate::specs::Gnss::count_or_zero))]
+    fn count_or_zero(&self, n: usize) -> Option<u32>
+        requires { n < 21 }
+        ensures { option_said result ≡ count_or_zero (nth n (fields 44 self.now.rest.now)) }
+    {
+        let text = self.field(n);
+        if text.is_empty() {
+            return Some(0);
+        }
+        number::parse_u32(text)
+    }
+
+    // For sorting: whether the field is a numeral; nothing is rounded.
+    #[tactic(auto, unfolding(numeral::specs::Numeral::is_numeral))]
+    fn is_float(&self, n: usize) -> bool
+        requires { n < 21 }
+        ensures { result ≡ present (float_of (nth n (fields 44 self.now.rest.now))) }
+    {
+        numeral::is_numeral(self.field(n))
+    }
+
+    // The same of one that may be empty.
+    #[tactic(auto, using(crate::proofs::Reports::readable_empty, crate::proofs::Reports::readable_filled))]
+    fn is_float_or_empty(&self, n: usize) -> bool
+        requires { n < 21 }
+        ensures { result ≡ present (float_or_zero (nth n (fields 44 self.now.rest.now))) }
+    {
+        let text = self.field(n);
+        text.is_empty() || numeral::is_numeral(text)
+    }
+
+    // Whether the field is a count, or empty.
+    fn is_count_or_empty(&self, n: usize) -> bool
+        requires { n < 21 }
+        ensures { result ≡ present (count_or_zero (nth n (fields 44 self.now.rest.now))) }
+    {
+        self.count_or_zero(n).is_some()
+    }
+
+    // The fix, if all its values are readable.
+    fn fix_on(&self, date_time: DateTime) -> Option<GnssFix>
+        ensures { need (option_mapped fix_says result) (λ found. read (fix found))
+            ≡ fix_on (date_says date_time) (fields 44 self.now.rest.now) }
+    {
+        let latitude = self.float(3)?;
+        let longitude = self.float(4)?;
+        let altitude = self.float(5)?;
+        let speed_over_ground = self.float_or_zero(6)?;
+        let course_over_ground = self.float_or_zero(7)?;
+        let hdop = self.float_or_zero(10)?;
+        let pdop = self.float_or_zero(11)?;
+        let vdop = self.float_or_zero(12)?;
+        let sat_gps_in_view = self.count_or_zero(14)?;
+        let sat_gnss_used = self.count_or_zero(15)?;
+        let sat_glonass_used = self.count_or_zero(16)?;
+        let signal_noise_ratio = self.count_or_zero(18)?;
+        Some(GnssFix {
             date_time,
-            latitude: latitude.value,
-            longitude: longitude.value,
-            altitude: altitude.value,
-            hdop: hdop.value,
-            pdop: pdop.value,
-            vdop: vdop.value,
-            speed_over_ground: speed.value,
-            course_over_ground: course.value,
-            sat_gps_in_view: in_view.value,
-            sat_gnss_used: gnss.value,
-            sat_glonass_used: glonass.value,
-            signal_noise_ratio: ratio.value,
-        },
-    )
-}
+            latitude,
+            longitude,
+            altitude,
+            hdop,
+            pdop,
+            vdop,
+            speed_over_ground,
+            course_over_ground,
+            sat_gps_in_view,
+            sat_gnss_used,
+            sat_glonass_used,
+            signal_noise_ratio,
+        })
+    }
 
-// The date first: 13 where there is none, whatever the other fields are.
-fn gnss_fix(rest: &[u8], places: &[usize; 22]) -> GnssReportAnswer
-    requires { Places places.now rest.now }
-    ensures { says result ≡ fix_of (fields 44 rest.now) }
-{
-    match DateTime::new(field_at(rest, places, 2)) {
-        ParsedDateTime::Is(date_time) => fix_on(date_time, rest, places),
-        ParsedDateTime::Not => GnssReportAnswer::Refused(13),
+    // The date first: 13 where there is none, whatever the other fields are.
+    fn gnss_fix(&self) -> Result<GnssReport, Refusal>
+        ensures { says result ≡ fix_of (fields 44 self.now.rest.now) }
+    {
+        let date_time = DateTime::new(self.field(2)).ok_or(Refusal::NoSuchDate)?;
+        let found = self.fix_on(date_time).ok_or(Refusal::NotThisLine)?;
+        Ok(GnssReport::Fix(found))
     }
-}
 
-// Reads what follows the prefix: there are exactly 21 fields where the last begins within it and a next one does not.
-fn gnss_report(rest: &[u8]) -> GnssReportAnswer
-    ensures { says result ≡ ugnsinf_fields (fields 44 rest.now) }
-{
-    let places = reader::field_starts(rest);
-    if rest.len() < places[20] {
-        return GnssReportAnswer::Refused(3);
+    // The same fields as `fix_on` reads, with no branch on one; which date stands before them does
+    // not matter.
+    fn is_readable(&self) -> bool
+        ensures { (date : Date) → cond result 0 3 ≡ refusal_in (fix_on date (fields 44 self.now.rest.now)) }
+    {
+        let position = self.is_float(3) & self.is_float(4) & self.is_float(5);
+        let motion = self.is_float_or_empty(6) & self.is_float_or_empty(7);
+        let dilution = self.is_float_or_empty(10)
+            & self.is_float_or_empty(11)
+            & self.is_float_or_empty(12);
+        let satellites = self.is_count_or_empty(14)
+            & self.is_count_or_empty(15)
+            & self.is_count_or_empty(16)
+            & self.is_count_or_empty(18);
+        position & motion & dilution & satellites
     }
-    if places[21] <= rest.len() {
-        return GnssReportAnswer::Refused(3);
-    }
-    if !is_one(rest, &places, 0) {
-        return GnssReportAnswer::Value(GnssReport::NotEnabled);
-    }
-    if !is_one(rest, &places, 1) {
-        return GnssReportAnswer::Value(GnssReport::NoFix {
-            sat_gps_view: number::parse_u32(field_at(rest, &places, 14)),
-        });
-    }
-    gnss_fix(rest, &places)
-}
-
-// For sorting: whether the report has a date.
-fn is_dated(rest: &[u8], places: &[usize; 22]) -> bool
-    requires { Places places.now rest.now }
-    ensures { result ≡ present (date_of (nth 2 (fields 44 rest.now))) }
-{
-    let t = field_at(rest, places, 2);
-    match DateTime::new(t) {
-        ParsedDateTime::Is(_) => true,
-        ParsedDateTime::Not => false,
-    }
-}
-
-// Whether a field is a numeral; nothing is rounded.
-fn is_float(rest: &[u8], places: &[usize; 22], n: usize) -> bool
-    requires { Places places.now rest.now × (n < 21) }
-    ensures { result ≡ present (float_of (nth n (fields 44 rest.now))) }
-{
-    numeral::is_numeral(field_at(rest, places, n))
-}
-
-// The same of one that may be empty.
-fn is_float_or_empty(rest: &[u8], places: &[usize; 22], n: usize) -> bool
-    requires { Places places.now rest.now × (n < 21) }
-    ensures { result ≡ present (float_or_zero (nth n (fields 44 rest.now))) }
-{
-    let t = field_at(rest, places, n);
-    if t.len() == 0 {
-        return true;
-    }
-    numeral::is_numeral(t)
-}
-
-// Whether a field is a count, or empty.
-fn is_count_or_empty(rest: &[u8], places: &[usize; 22], n: usize) -> bool
-    requires { Places places.now rest.now × (n < 21) }
-    ensures { result ≡ present (count_or_zero (nth n (fields 44 rest.now))) }
-{
-    let t = field_at(rest, places, n);
-    if t.len() == 0 {
-        return true;
-    }
-    match number::parse_u32(t) {
-        ParsedU32::Is(_) => true,
-        ParsedU32::Not => false,
-    }
-}
-
-// 0 where all is readable.
-fn refusal_unless(good: bool) -> u8
-    ensures { result ≡ cond good 0 3 }
-{
-    if good {
-        return 0;
-    }
-    3
-}
-
-// The same fields as `fix_on` reads; which date stands before them does not matter.
-fn refusal_on(rest: &[u8], places: &[usize; 22]) -> u8
-    requires { Places places.now rest.now }
-    ensures { (date : Date) → result ≡ refusal_in (fix_on date (fields 44 rest.now)) }
-{
-    let latitude = is_float(rest, places, 3);
-    let longitude = is_float(rest, places, 4);
-    let altitude = is_float(rest, places, 5);
-    let speed = is_float_or_empty(rest, places, 6);
-    let course = is_float_or_empty(rest, places, 7);
-    let hdop = is_float_or_empty(rest, places, 10);
-    let pdop = is_float_or_empty(rest, places, 11);
-    let vdop = is_float_or_empty(rest, places, 12);
-    let in_view = is_count_or_empty(rest, places, 14);
-    let gnss = is_count_or_empty(rest, places, 15);
-    let glonass = is_count_or_empty(rest, places, 16);
-    let ratio = is_count_or_empty(rest, places, 18);
-    let position = latitude & longitude & altitude;
-    let motion = speed & course;
-    let dilution = hdop & pdop & vdop;
-    let satellites = in_view & gnss & glonass & ratio;
-    refusal_unless(position & motion & dilution & satellites)
-}
-
-// As `gnss_report`, with every value forgotten.
-fn report_refusal(rest: &[u8]) -> u8
-    ensures { result ≡ refusal_in (ugnsinf_fields (fields 44 rest.now)) }
-{
-    let places = reader::field_starts(rest);
-    if rest.len() < places[20] {
-        return 3;
-    }
-    if places[21] <= rest.len() {
-        return 3;
-    }
-    if !is_one(rest, &places, 0) {
-        return 0;
-    }
-    if !is_one(rest, &places, 1) {
-        return 0;
-    }
-    if !is_dated(rest, &places) {
-        return 13;
-    }
-    refusal_on(rest, &places)
 }
 
 impl GnssReport {
-    pub(crate) fn from_checked(line: &[u8]) -> GnssReportAnswer
-        ensures { says result ≡ ugnsinf_text line.now }
+    ghost use Rattle.unsolicited.specs.says.Gnss.{says, GnssReportKeeps};
+
+    // Reads what follows the prefix.
+    fn gnss_report(rest: &[u8]) -> Result<GnssReport, Refusal>
+        ensures { says result ≡ ugnsinf_fields (fields 44 rest.now) }
     {
-        if !bytes::starts_with(line, b"+UGNSINF: ") {
-            return GnssReportAnswer::Refused(3);
+        let found = Fields::new(rest)?;
+        if !found.is_one(0) {
+            return Ok(GnssReport::NotEnabled);
         }
-        gnss_report(part::skip(line, 10))
+        if !found.is_one(1) {
+            return Ok(GnssReport::NoFix {
+                sat_gps_view: number::parse_u32(found.field(14)),
+            });
+        }
+        found.gnss_fix()
     }
 
-    pub fn from_line(line: &[u8]) -> GnssReportAnswer
+    // As `gnss_report`, with every value forgotten.
+    fn report_refusal(rest: &[u8]) -> Result<(), Refusal>
+        ensures { refusal_said result ≡ refusal_in (ugnsinf_fields (fields 44 rest.now)) }
+    {
+        let found = Fields::new(rest)?;
+        if !found.is_one(0) {
+            return Ok(());
+        }
+        if !found.is_one(1) {
+            return Ok(());
+        }
+        if DateTime::new(found.field(2)).is_none() {
+            return Err(Refusal::NoSuchDate);
+        }
+        if !found.is_readable() {
+            return Err(Refusal::NotThisLine);
+        }
+        Ok(())
+    }
+
+    pub(crate) fn from_checked(line: &[u8]) -> Result<GnssReport, Refusal>
+        ensures { says result ≡ ugnsinf_text line.now }
+    {
+        let rest = prefix::behind(line, b"+UGNSINF: ")?;
+        GnssReport::gnss_report(rest)
+    }
+
+    #[tactic(auto, using(text::proofs::LineLaws::line_bad, text::proofs::LineLaws::line_good))]
+    pub fn from_line(line: &[u8]) -> Result<GnssReport, Refusal>
         ensures { GnssReportKeeps line.now result }
     {
-        let k = line::check_line(line);
-        if k != 0 {
-            return GnssReportAnswer::Refused(k);
-        }
+        line::check_line(line)?;
         GnssReport::from_checked(line)
     }
 
-    // The answer of `from_checked` with its value forgotten: the number of the refusal, 0 where there is none.
-    pub(crate) fn refusal_checked(line: &[u8]) -> u8
-        ensures { result ≡ refusal_in (ugnsinf_text line.now) }
+    // The answer of `from_checked` with its value forgotten.
+    pub(crate) fn refusal_checked(line: &[u8]) -> Result<(), Refusal>
+        ensures { refusal_said result ≡ refusal_in (ugnsinf_text line.now) }
     {
-        if !bytes::starts_with(line, b"+UGNSINF: ") {
-            return 3;
-        }
-        report_refusal(part::skip(line, 10))
+        let rest = prefix::behind(line, b"+UGNSINF: ")?;
+        GnssReport::report_refusal(rest)
     }
 }

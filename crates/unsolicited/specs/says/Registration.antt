@@ -1,14 +1,13 @@
 -- What the answers on the registration in the network say on paper, and the contract of their four readers.
-use Rattle.std.specs.Prelude.{◌≡◌, List, ℕ}
+use Rattle.std.specs.Prelude.{◌≡◌, List, ℕ, Result}
 use Rattle.text.specs.Line.{checked}
-use Rattle.text.specs.Reading.{Reading, read, refused}
-use Rattle.text.specs.says.Number.{says_u16, says_u32}
+use Rattle.text.specs.Reading.{Reading}
+use Rattle.text.specs.declared.refusal.Refusal.{Refusal}
+use Rattle.text.specs.says.Refusal.{option_said, reading_said}
 use Rattle.unsolicited.specs.Registration.{Registration}
 use Rattle.unsolicited.specs.declared.network_registration.RegistrationStatus.{RegistrationStatus}
 use Rattle.unsolicited.specs.declared.network_registration.RegistrationStatus.TheVariants.{NotRegistered, RegisteredHome, Searching, RegistrationDenied, Unknown, RegisteredRoaming}
 use Rattle.unsolicited.specs.declared.network_registration.NetworkRegistration.{NetworkRegistration}
-use Rattle.unsolicited.specs.declared.network_registration.NetworkRegistrationAnswer.{NetworkRegistrationAnswer}
-use Rattle.unsolicited.specs.declared.network_registration.NetworkRegistrationAnswer.TheVariants.{Value, Refused}
 
 abbrev pub status_number : RegistrationStatus → ℕ
 status_number NotRegistered = 0
@@ -19,12 +18,11 @@ status_number Unknown = 4
 status_number RegisteredRoaming = 5
 
 abbrev pub registration_says : NetworkRegistration → Registration
-registration_says r = record { status = status_number r.status; lac = says_u16 r.lac; ci = says_u32 r.ci }
+registration_says r = record { status = status_number r.status; lac = option_said r.lac; ci = option_said r.ci }
 
-abbrev pub says : NetworkRegistrationAnswer → Reading Registration
-says (Value r) = read (registration_says r)
-says (Refused k) = refused k
+abbrev pub says : Result NetworkRegistration Refusal → Reading Registration
+says r = reading_said registration_says r
 
 -- text is the reader's: `creg_text`, `cgreg_text`, `cereg_text` or `registration_text`
-abbrev pub RegistrationKeeps : (List ℕ → Reading Registration) → List ℕ → NetworkRegistrationAnswer → Type 0
+abbrev pub RegistrationKeeps : (List ℕ → Reading Registration) → List ℕ → Result NetworkRegistration Refusal → Type 0
 RegistrationKeeps text line r = says r ≡ checked text line

@@ -1,8 +1,5 @@
-use Rattle.text.proofs.LineLaws.{lines}
+use Rattle.text.proofs.LineLaws.{line_good}
 use Rattle.unsolicited.proofs.creg.CReg.from_line.Goals as goal
 
-pub returns-then-k-ne0 : goal.returns-then-k-ne0
-returns-then-k-ne0 c = search lines
-
 pub returns : goal.returns
-returns c = search lines
+returns c = line_good _ _ _ c.check_line.ensures _ _ c.in_ok-check_line.was c.from_checked.ensures

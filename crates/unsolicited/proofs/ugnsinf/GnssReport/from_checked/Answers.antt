@@ -1,14 +1,16 @@
-use Rattle.text.proofs.Readings.{reader, via}
-use mathlib.Core.List.{List}
-use Prim.Native.Nat.{ℕ}
+use Rattle.std.proofs.Common.{refl, ap, ◌∙◌}
 use Rattle.text.specs.Field.{fields}
+use Rattle.text.specs.Reading.{refused, refusal_in}
+use Rattle.text.specs.says.Refusal.{refusal_said}
 use Rattle.unsolicited.specs.Gnss.{ugnsinf_fields, ugnsinf_text}
+use Rattle.unsolicited.specs.says.Gnss.{says}
+use Rattle.unsolicited.proofs.Stripped.{exit, lacks, has}
 use Rattle.unsolicited.proofs.ugnsinf.GnssReport.from_checked.Goals as goal
 
-pub returns-then-not-starts_with : goal.returns-then-not-starts_with
+pub returns-in_err-rest : goal.returns-in_err-rest
 unfolding ugnsinf_text
-returns-then-not-starts_with c = search reader
+returns-in_err-rest c = exit says _ _ _ c.from_residual.ensures.1 (ap refused c.in_err-rest.ensures.1 ∙ lacks _ _ c.in_err-rest.ensures.0)
 
 pub returns : goal.returns
 unfolding ugnsinf_text
-returns c = search (reader, via (λ (t : List ℕ). ugnsinf_fields (fields 44 t)))
+returns c = has _ (λ t. ugnsinf_fields (fields 44 t)) _ _ _ c.in_ok-rest.ensures.0 c.in_ok-rest.ensures.1 c.gnss_report.ensures
