@@ -1,6 +1,6 @@
-use Rattle.std.proofs.Common.{◌≡◌, refl, ap, ◌∙◌, Option, Some, None, unwrap_or}
+use Rattle.std.proofs.Common.{◌≡◌, refl, Option, Some, None, unwrap_or}
 use Rattle.text.specs.says.Refusal.{option_mapped}
-use Rattle.text.proofs.Codes.{coded_in}
+use Rattle.text.proofs.Codes.{mapped_entry}
 use Rattle.at_command.specs.Httptofs.{or_zero}
 use Rattle.at_command.specs.says.Httptofs.{status_number}
 use Rattle.at_command.specs.declared.httptofs.StatusCode.{StatusCode}
@@ -12,4 +12,4 @@ else_zero (Some s) = refl
 else_zero None = refl
 
 pub returns : goal.returns
-returns c = rw (c.unwrap_or.ensures, c.coded.ensures) (else_zero _ ∙ ap or_zero (coded_in status_number _ c.args.t.now))
+returns c = rw (c.unwrap_or.ensures, else_zero c.coded.result, c.coded.ensures) (simp mapped_entry)
