@@ -119,6 +119,16 @@ module _ (l : List ℕ) (row : ℕ) (p : Points all_conditions l row) where
   pub refusal_urc : 13 ≤ row → refusal_by (urc_reading_at (row - 13)) l ≡ refusal_by said_text l
   refusal_urc h = refusal_as unsolicited (checked (urc_reading_at (row - 13)) l) ∙ ap refusal_in (sym (both_urc h))
 
+-- and so the answer of that reader, under another name
+module _ (l : List ℕ) (row : ℕ) (p : Points all_conditions l row) where
+  pub line_as_response : (x : Reading Response) → row < 13 → x ≡ checked (reading_at row) l → mapped response x ≡ line_said l
+  unfolding line_said
+  line_as_response x h e = ap (mapped response) e ∙ sym (both_response l row p h)
+
+  pub line_as_urc : (x : Reading Unsolicited) → 13 ≤ row → x ≡ checked (urc_reading_at (row - 13)) l → mapped unsolicited x ≡ line_said l
+  unfolding line_said
+  line_as_urc x h e = ap (mapped unsolicited) e ∙ sym (both_urc l row p h)
+
 -- ---- which reader takes the line
 
 module _ (l : List ℕ) where
@@ -204,9 +214,9 @@ module _ (l : List ℕ) where
       go (read s) f = absurd (n f)
       go (refused j) f = ap refused f
 
-  pub taker_taken : (row : ℕ) → Points all_conditions l row → (k : ℕ) → k ≡ refusal_by said_text l → k ≡ 0 → read (taker_at row) ≡ line_taker l
+  pub taker_taken : (row : ℕ) → Points all_conditions l row → 0 ≡ refusal_by said_text l → read (taker_at row) ≡ line_taker l
   unfolding line_taker line_said checked mapped
-  taker_taken row p k e z = go (eqb (line_check l) 0) (eqb-true (line_check l) 0) (eqb-false (line_check l) 0) (sym e ∙ z)
+  taker_taken row p e = go (eqb (line_check l) 0) (eqb-true (line_check l) 0) (eqb-false (line_check l) 0) (sym e)
     where
       taken : (x : Reading Said) → mapped taker_of x ≡ mapped (λ (s : Said). taker_at row) x → x ≡ said_text l → line_check l ≡ 0 → refusal_in x ≡ 0 → read (taker_at row) ≡ mapped taker_of x
       taken (read s) f g c h = sym f
@@ -218,13 +228,13 @@ module _ (l : List ℕ) where
 
 -- the reader of a row, as the code asks for it
 module _ (row : ℕ) where
-  pub taker_response : (k : Kind) → row < 13 → k ≡ kind_at row → read (T.response k) ≡ read (taker_at row)
+  pub taker_response : (k : Kind) → row < 13 → k ≡ kind_at row → T.response k ≡ taker_at row
   taker_response k h e = rw (lt-ltb row 13 h, e)
 
-  pub taker_gnss : row ≡ 13 → read T.gnss ≡ read (taker_at row)
+  pub taker_gnss : row ≡ 13 → T.gnss ≡ taker_at row
   taker_gnss e = rw e
 
-  pub taker_registration : 13 ≤ row → (row ≡ 13 → ⊥) → read T.registration ≡ read (taker_at row)
+  pub taker_registration : 13 ≤ row → (row ≡ 13 → ⊥) → T.registration ≡ taker_at row
   taker_registration h n = rw (le-ltb row 13 h, ne_eqb row 13 n)
 
 -- and what the line is to a desk

@@ -40,9 +40,9 @@ impl Line {
         ensures { LineKeeps line.now result }
     {
         if Urc::begins(line) {
-            return Urc::from_line(line).map(Line::Unsolicited);
+            return Ok(Line::Unsolicited(Urc::from_line(line)?));
         }
-        ResponseCode::from_line(line).map(Line::Response)
+        Ok(Line::Response(ResponseCode::from_line(line)?))
     }
 
     pub fn sort(self) -> Sort

@@ -45,9 +45,9 @@ pub fn said(line: &[u8]) -> Result<Line, Refusal>
 {
     let row = row::row_of(line);
     if row < RESPONSES {
-        return responses::read_at(row, line).map(Line::Response);
+        return Ok(Line::Response(responses::read_at(row, line)?));
     }
-    urcs::read_at(row - RESPONSES, line).map(Line::Unsolicited)
+    Ok(Line::Unsolicited(urcs::read_at(row - RESPONSES, line)?))
 }
 
 // The refusal of a line, with no value kept.
