@@ -37,7 +37,9 @@ module _ (s : List ℕ) (at : ℕ) (all : all_digits s ≡ true) (h : at + 2 ≤
       unfolding figures value_of
       pair_is = rw (two s at h, ex, ey, difference (get_or s at 0) (digit_at s at all (omega arith)), difference (get_or s (at + 1) 0) (digit_at s (at + 1) all (omega arith))) (omega arith)
 
--- `year_of`: two of them
+pub ruleset pairs = (tens, units, pair_is)
+
+-- `year`: two of them
 pub year_is : (s : List ℕ) → 4 ≤ length s → (x y : ℕ) → x ≡ figures 0 2 s → y ≡ figures 2 4 s → 100 * x + y ≡ figures 0 4 s
 unfolding figures value_of part_of
 year_is (a ∷ b ∷ c ∷ d ∷ s) h x y ex ey = omega arith
@@ -75,6 +77,8 @@ behind_point (x ∷ s) t is h g r e =
     let l = ap length is in
     rw (eq-eqb x 46 g, le-leb 1 (length s) (omega arith)) (e ∙ ap all_digits is)
 
+pub ruleset fractions = (none_left, one_left, no_point, behind_point)
+
 -- `existing_date`: the code's tests are those of the definition, put together in another way
 module _ (d : Date) (n : ℕ) (days : n ≡ days_in d.year d.month) where
   abbrev tests : Bool
@@ -91,6 +95,8 @@ module _ (d : Date) (n : ℕ) (days : n ≡ days_in d.year d.month) where
   pub exists_not : tests ≡ false → none ≡ existing d
   unfolding existing
   exists_not h = rw (tests_are, h)
+
+pub ruleset existence = (it_exists, exists_not)
 
 -- `new`
 module _ (t : List ℕ) where
@@ -113,3 +119,5 @@ module _ (t : List ℕ) where
       pub dated : y ≡ true → (d : Date) → d ≡ date_in p → (o : Option Date) → o ≡ existing d → o ≡ date_of t
       unfolding date_of
       dated n d e o k = rw (le-leb 14 (length t) long, ← front, ← told, yes, ← rest, ← heard, n, ← e) k
+
+pub ruleset dates = (too_short, no_digits, no_fraction, dated)

@@ -65,6 +65,8 @@ module _ (o : Option ℤ) (k : ℕ) (t : List ℕ) (count : k ≡ length (fields
     unfolding cereg_status
     by_first f h q e = rw (sym count, lt-ltb 1 k (omega arith), ← second, ← digits, h, ← q) e
 
+pub ruleset chosen = (only_first, by_second, by_first)
+
 -- `status_place`
 module _ (k l : ℕ) where
   pub place_first : eqb k 1 || eqb k 4 ≡ true → some 0 ≡ status_place (2 ∷ 5 ∷ l ∷ []) k
@@ -76,6 +78,8 @@ module _ (k l : ℕ) where
 
     pub place_none : eqb k 2 || eqb k 5 || eqb k l ≡ false → none ≡ status_place (2 ∷ 5 ∷ l ∷ []) k
     place_none e = rw (or-false (eqb k 4), h, or-false (eqb k l), sym (or_assoc (eqb k 2) (eqb k 5) (eqb k l)) ∙ e)
+
+pub ruleset placing = (place_first, place_second, place_none)
 
 -- the status stands at the place n, or there is none
 module _ (skipping : List ℕ) (fs : List (List ℕ)) where

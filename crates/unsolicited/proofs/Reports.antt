@@ -140,6 +140,8 @@ pub readable_filled : (t s : List ℕ) (x : Bool) → x ≡ is_numeral t → t �
 unfolding float_or_zero is_numeral
 readable_filled t s x e is h = else_readable (fin false 0 (pos 0)) float_of t s is x h e
 
+pub ruleset optional = (empty, filled, float_empty, float_filled, readable_empty, readable_filled)
+
 -- the places of all fields, found once: exactly 21 of them
 module _ (s ps : List ℕ) (starts : FieldStartsKeeps s ps) where
   pub too_few : length s < get_or ps 20 0 → length (fields 44 s) ≡ 21 → ⊥
@@ -150,6 +152,8 @@ module _ (s ps : List ℕ) (starts : FieldStartsKeeps s ps) where
 
   pub all_there : get_or ps 20 0 ≤ length s → length s < get_or ps 21 0 → Places ps s
   all_there h l = let a = starts_in s ps starts 20 (omega arith) h in let b = starts_past s ps starts 21 (omega arith) l in record { count = omega arith; starts = starts }
+
+pub ruleset places = (too_few, too_many, all_there)
 
 -- the report of so many
 module _ (fs : List (List ℕ)) where

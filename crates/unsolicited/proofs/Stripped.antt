@@ -4,8 +4,10 @@ use Rattle.std.specs.Option.{ok_or}
 use Rattle.std.specs.Result.{IsErrAnd}
 use lib.Pointwise.{pointwise}
 use Rattle.text.specs.Bytes.{starts_with}
-use Rattle.text.specs.Reading.{Reading, refused, only}
-use Rattle.text.specs.says.Refusal.{number_of}
+use Rattle.text.specs.Reading.{Reading, refused, only, refusal_in}
+use Rattle.text.specs.Line.{line_check, checked}
+use Rattle.text.specs.says.Refusal.{number_of, refusal_said}
+use Rattle.text.proofs.LineLaws.{line_bad, line_good}
 use Rattle.text.proofs.Readings.{only_not, only_so}
 use Rattle.text.proofs.Tests.{never}
 use Rattle.text.specs.declared.refusal.Refusal.{Refusal}
@@ -57,3 +59,17 @@ module _ {A : Type 0} (t : Bool) where
 
   pub has : (F : List ℕ → Reading A) (u s : List ℕ) (q : Reading A) → t ≡ true → u ≡ s → q ≡ F u → q ≡ only t (F s)
   has F u s q h is e = only_so t t (F s) q refl h (e ∙ ap F is)
+
+-- behind the check of the line
+pub passed : {A : Type 0} (reader : List ℕ → Reading A) (s : List ℕ) (r : Result Unit Refusal) → refusal_said r ≡ line_check s → r ≡ Ok tt → (q : Reading A) → q ≡ reader s → q ≡ checked reader s
+passed reader s r is e q h = line_good reader s r is tt q e h
+
+-- the same of the refusal alone
+module _ {A : Type 0} (reader : List ℕ → Reading A) (s : List ℕ) (r : Result Unit Refusal) (is : refusal_said r ≡ line_check s) where
+  pub bad_alone : (k : Refusal) → r ≡ Err k → number_of k ≡ refusal_in (checked reader s)
+  bad_alone k e = ap refusal_in (line_bad reader s r is k e)
+
+  pub passed_alone : r ≡ Ok tt → (n : ℕ) → n ≡ refusal_in (reader s) → n ≡ refusal_in (checked reader s)
+  passed_alone e n h = h ∙ ap refusal_in (line_good reader s r is tt (reader s) e refl)
+
+pub ruleset checks = (line_bad, passed, bad_alone, passed_alone)

@@ -25,6 +25,5 @@ pub(crate) fn days_in(year: u16, month: u8) -> u8
     if (month == 2) & is_leap(year) {
         return 29;
     }
-    let i = month as usize;
-    DAYS[i]
+    DAYS[month as usize]
 }

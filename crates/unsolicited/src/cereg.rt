@@ -17,7 +17,7 @@ use text::{bytes, field, line, number, reader};
 pub struct CEReg;
 
 // The number of the status.
-#[tactic(auto, using(crate::proofs::Registrations::only_first, crate::proofs::Registrations::by_second, crate::proofs::Registrations::by_first))]
+#[tactic(auto, using(crate::proofs::Registrations::chosen))]
 fn status_in(rest: &[u8]) -> Option<i32>
     ensures { option_said result ≡ signed 10 2147483647 (cereg_status (fields 44 rest.now)) }
 {
@@ -45,7 +45,7 @@ impl CEReg {
         })
     }
 
-    #[tactic(auto, using(text::proofs::LineLaws::line_bad, text::proofs::LineLaws::line_good))]
+    #[tactic(auto, using(crate::proofs::Stripped::checks))]
     pub fn from_line(line: &[u8]) -> Result<NetworkRegistration, Refusal>
         ensures { RegistrationKeeps cereg_text line.now result }
     {

@@ -21,7 +21,7 @@ impl CGReg {
         network_registration::registration(line, b"+CGREG: ", 8)
     }
 
-    #[tactic(auto, using(text::proofs::LineLaws::line_bad, text::proofs::LineLaws::line_good))]
+    #[tactic(auto, using(crate::proofs::Stripped::checks))]
     pub fn from_line(line: &[u8]) -> Result<NetworkRegistration, Refusal>
         ensures { RegistrationKeeps cgreg_text line.now result }
     {

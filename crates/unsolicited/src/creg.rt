@@ -21,7 +21,7 @@ impl CReg {
         network_registration::registration(line, b"+CREG: ", 5)
     }
 
-    #[tactic(auto, using(text::proofs::LineLaws::line_bad, text::proofs::LineLaws::line_good))]
+    #[tactic(auto, using(crate::proofs::Stripped::checks))]
     pub fn from_line(line: &[u8]) -> Result<NetworkRegistration, Refusal>
         ensures { RegistrationKeeps creg_text line.now result }
     {

@@ -54,7 +54,7 @@ impl Urc {
             || bytes::starts_with(line, b"+CEREG: ")
     }
 
-    #[tactic(auto, using(text::proofs::LineLaws::line_bad, text::proofs::LineLaws::line_good))]
+    #[tactic(auto, using(crate::proofs::Stripped::checks))]
     pub fn from_line(line: &[u8]) -> Result<Urc, Refusal>
         ensures { UrcKeeps line.now result }
     {

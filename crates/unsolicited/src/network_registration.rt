@@ -63,7 +63,7 @@ fn ci_at(rest: &[u8], n: usize) -> Option<u32>
 }
 
 // The status in field n, then lac and ci.
-#[tactic(auto, using(text::proofs::Numbers::read_signed, text::proofs::Numbers::miss_signed), unfolding(crate::specs::Registration::registration_at))]
+#[tactic(auto, using(text::proofs::Numbers::numbers), unfolding(crate::specs::Registration::registration_at))]
 fn registration_at(rest: &[u8], n: usize) -> Result<NetworkRegistration, Refusal>
     requires { n ≤ 1 }
     ensures { says result ≡ registration_at n (fields 44 rest.now) }
@@ -78,7 +78,7 @@ fn registration_at(rest: &[u8], n: usize) -> Result<NetworkRegistration, Refusal
 
 // The field of so many that is the status: of 1 or 4 the first, of 2, 5 or `longest` the second; any
 // other count is refused.
-#[tactic(auto, using(crate::proofs::Registrations::place_first, crate::proofs::Registrations::place_second, crate::proofs::Registrations::place_none))]
+#[tactic(auto, using(crate::proofs::Registrations::placing))]
 fn status_place(count: usize, longest: usize) -> Option<usize>
     ensures place { option_said result ≡ status_place (2 ∷ 5 ∷ longest ∷ []) count }
     ensures low { IfSome result (λ n. n ≤ 1) }
@@ -130,7 +130,7 @@ impl NetworkRegistration {
         CEReg::from_checked(line)
     }
 
-    #[tactic(auto, using(text::proofs::LineLaws::line_bad, text::proofs::LineLaws::line_good))]
+    #[tactic(auto, using(crate::proofs::Stripped::checks))]
     pub fn from_line(line: &[u8]) -> Result<NetworkRegistration, Refusal>
         ensures { RegistrationKeeps registration_text line.now result }
     {

@@ -28,7 +28,7 @@ fn checked_at(place: usize, line: &[u8]) -> Result<Urc, Refusal>
 }
 
 // What the reader at a place says of the line; past the last, refusal 3.
-#[tactic(auto, using(text::proofs::LineLaws::line_bad, text::proofs::LineLaws::line_good))]
+#[tactic(auto, using(crate::proofs::Stripped::checks))]
 pub fn read_at(place: usize, line: &[u8]) -> Result<Urc, Refusal>
     ensures { UrcAtKeeps place line.now result }
 {
@@ -49,6 +49,7 @@ fn refusal_checked_at(place: usize, line: &[u8]) -> Result<(), Refusal>
 }
 
 // The answer of `read_at` with its value forgotten.
+#[tactic(auto, using(crate::proofs::Stripped::checks))]
 pub fn refusal_at(place: usize, line: &[u8]) -> Result<(), Refusal>
     ensures { ChecksKeep (refusal_by (urc_reading_at place) line.now) result }
 {

@@ -35,7 +35,7 @@ impl Digits<'_> {
     ghost use Rattle.unsolicited.specs.says.Gnss.{date_says};
 
     // The number that the two digits from `at` on are.
-    #[tactic(auto, using(crate::proofs::Dates::tens, crate::proofs::Dates::units, crate::proofs::Dates::pair_is))]
+    #[tactic(auto, using(crate::proofs::Dates::pairs))]
     fn pair(self, at: usize) -> u8
         requires { at + 2 ≤ 14 }
         ensures value { result ≡ figures at (at + 2) self.entry.text.now }
@@ -69,7 +69,7 @@ impl Digits<'_> {
 }
 
 // Whether it is nothing, or a point and one or more digits.
-#[tactic(auto, using(crate::proofs::Dates::none_left, crate::proofs::Dates::one_left, crate::proofs::Dates::no_point, crate::proofs::Dates::behind_point))]
+#[tactic(auto, using(crate::proofs::Dates::fractions))]
 fn is_fraction(s: &[u8]) -> bool
     ensures { result ≡ is_fraction s.now }
 {
@@ -85,7 +85,7 @@ impl DateTime {
 
     // The date, if there is such a day and time in the years 1980 to 2099; no month that is none has
     // a day.
-    #[tactic(auto, using(crate::proofs::Dates::it_exists, crate::proofs::Dates::exists_not))]
+    #[tactic(auto, using(crate::proofs::Dates::existence))]
     fn existing_date(self) -> Option<DateTime>
         ensures { date_option_says result ≡ existing (date_says self) }
     {
@@ -99,7 +99,7 @@ impl DateTime {
         None
     }
 
-    #[tactic(auto, using(crate::proofs::Dates::too_short, crate::proofs::Dates::no_digits, crate::proofs::Dates::no_fraction, crate::proofs::Dates::dated))]
+    #[tactic(auto, using(crate::proofs::Dates::dates))]
     pub fn new(time_string: &[u8]) -> Option<DateTime>
         ensures { DateKeeps time_string.now result }
     {
@@ -150,7 +150,7 @@ impl<'a> Fields<'a> {
     ghost use Rattle.unsolicited.specs.says.Gnss.{date_says, fix_says, says};
 
     // There are exactly 21 fields where the last begins within the text and a next one does not.
-    #[tactic(auto, using(crate::proofs::Reports::too_few, crate::proofs::Reports::too_many, crate::proofs::Reports::all_there))]
+    #[tactic(auto, using(crate::proofs::Reports::places))]
     fn new(rest: &'a [u8]) -> Result<Fields<'a>, Refusal>
         ensures { MatchResult result
             (λ found. found.rest.now ≡ rest.now)
@@ -189,7 +189,7 @@ impl<'a> Fields<'a> {
     }
 
     // An empty field is zero.
-    #[tactic(auto, using(crate::proofs::Reports::float_empty, crate::proofs::Reports::float_filled))]
+    #[tactic(auto, using(crate::proofs::Reports::optional))]
     fn float_or_zero(&self, n: usize) -> Option<f32>
         requires { n < 21 }
         ensures { option_said result ≡ float_or_zero (nth n (fields 44 self.now.rest.now)) }
@@ -201,7 +201,7 @@ impl<'a> Fields<'a> {
         numeral::read(text)
     }
 
-    #[tactic(auto, using(crate::proofs::Reports::empty, crate::proofs::Reports::filled), unfolding(crate::specs::Gnss::count_or_zero))]
+    #[tactic(auto, using(crate::proofs::Reports::optional), unfolding(crate::specs::Gnss::count_or_zero))]
     fn count_or_zero(&self, n: usize) -> Option<u32>
         requires { n < 21 }
         ensures { option_said result ≡ count_or_zero (nth n (fields 44 self.now.rest.now)) }
@@ -223,7 +223,7 @@ impl<'a> Fields<'a> {
     }
 
     // The same of one that may be empty.
-    #[tactic(auto, using(crate::proofs::Reports::readable_empty, crate::proofs::Reports::readable_filled))]
+    #[tactic(auto, using(crate::proofs::Reports::optional))]
     fn is_float_or_empty(&self, n: usize) -> bool
         requires { n < 21 }
         ensures { result ≡ present (float_or_zero (nth n (fields 44 self.now.rest.now))) }
@@ -347,7 +347,7 @@ impl GnssReport {
         GnssReport::gnss_report(rest)
     }
 
-    #[tactic(auto, using(text::proofs::LineLaws::line_bad, text::proofs::LineLaws::line_good))]
+    #[tactic(auto, using(crate::proofs::Stripped::checks))]
     pub fn from_line(line: &[u8]) -> Result<GnssReport, Refusal>
         ensures { GnssReportKeeps line.now result }
     {
