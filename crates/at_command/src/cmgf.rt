@@ -32,8 +32,8 @@ fn format_of(t: &[u8]) -> FormatCode
     ensures { code_says result ≡ code_in message_formats t.now }
 {
     match code::place_in(t, b"0,1") {
-        0 => FormatCode::Is(SmsMessageFormat::Pdu),
-        1 => FormatCode::Is(SmsMessageFormat::Text),
+        Some(0) => FormatCode::Is(SmsMessageFormat::Pdu),
+        Some(1) => FormatCode::Is(SmsMessageFormat::Text),
         _ => FormatCode::Not,
     }
 }

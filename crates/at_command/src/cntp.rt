@@ -55,12 +55,12 @@ fn code_of(t: &[u8]) -> NtpCode
     ensures { code_says result ≡ code_in ntp_codes t.now }
 {
     match code::place_in(t, b"1,61,62,63,64,65") {
-        0 => NtpCode::Is(SyncNtpStatusCode::Success),
-        1 => NtpCode::Is(SyncNtpStatusCode::NetworkError),
-        2 => NtpCode::Is(SyncNtpStatusCode::DnsResolutionError),
-        3 => NtpCode::Is(SyncNtpStatusCode::ConnectionError),
-        4 => NtpCode::Is(SyncNtpStatusCode::ServiceResponseError),
-        5 => NtpCode::Is(SyncNtpStatusCode::ServiceResponseTimeout),
+        Some(0) => NtpCode::Is(SyncNtpStatusCode::Success),
+        Some(1) => NtpCode::Is(SyncNtpStatusCode::NetworkError),
+        Some(2) => NtpCode::Is(SyncNtpStatusCode::DnsResolutionError),
+        Some(3) => NtpCode::Is(SyncNtpStatusCode::ConnectionError),
+        Some(4) => NtpCode::Is(SyncNtpStatusCode::ServiceResponseError),
+        Some(5) => NtpCode::Is(SyncNtpStatusCode::ServiceResponseTimeout),
         _ => NtpCode::Not,
     }
 }

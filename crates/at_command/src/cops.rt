@@ -67,10 +67,10 @@ fn mode_of(t: &[u8]) -> ModeCode
     ensures { mode_says result ≡ code_in operator_modes t.now }
 {
     match code::place_in(t, b"0,1,2,4") {
-        0 => ModeCode::Is(OperatorMode::Automatic),
-        1 => ModeCode::Is(OperatorMode::Manual),
-        2 => ModeCode::Is(OperatorMode::ManualDeregister),
-        3 => ModeCode::Is(OperatorMode::ManualAutomatic),
+        Some(0) => ModeCode::Is(OperatorMode::Automatic),
+        Some(1) => ModeCode::Is(OperatorMode::Manual),
+        Some(2) => ModeCode::Is(OperatorMode::ManualDeregister),
+        Some(3) => ModeCode::Is(OperatorMode::ManualAutomatic),
         _ => ModeCode::Not,
     }
 }
@@ -79,9 +79,9 @@ fn format_of(t: &[u8]) -> FormatCode
     ensures { format_says result ≡ code_in operator_formats t.now }
 {
     match code::place_in(t, b"0,1,2") {
-        0 => FormatCode::Is(OperatorFormat::Long),
-        1 => FormatCode::Is(OperatorFormat::Short),
-        2 => FormatCode::Is(OperatorFormat::Numeric),
+        Some(0) => FormatCode::Is(OperatorFormat::Long),
+        Some(1) => FormatCode::Is(OperatorFormat::Short),
+        Some(2) => FormatCode::Is(OperatorFormat::Numeric),
         _ => FormatCode::Not,
     }
 }

@@ -56,10 +56,10 @@ fn system_of(t: &[u8]) -> SystemCode
     ensures { system_says result ≡ code_in system_modes t.now }
 {
     match code::place_in(t, b"NO SERVICE,GSM,LTE CAT-M1,LTE NB-IOT") {
-        0 => SystemCode::Is(SystemMode::NoService),
-        1 => SystemCode::Is(SystemMode::Gsm),
-        2 => SystemCode::Is(SystemMode::LteCatM1),
-        3 => SystemCode::Is(SystemMode::LteNbIot),
+        Some(0) => SystemCode::Is(SystemMode::NoService),
+        Some(1) => SystemCode::Is(SystemMode::Gsm),
+        Some(2) => SystemCode::Is(SystemMode::LteCatM1),
+        Some(3) => SystemCode::Is(SystemMode::LteNbIot),
         _ => SystemCode::Not,
     }
 }
@@ -68,11 +68,11 @@ fn operation_of(t: &[u8]) -> OperationCode
     ensures { operation_says result ≡ code_in operation_modes t.now }
 {
     match code::place_in(t, b"Online,Offline,Factory Test Mode,Reset,Low Power Mode") {
-        0 => OperationCode::Is(OperationMode::Online),
-        1 => OperationCode::Is(OperationMode::Offline),
-        2 => OperationCode::Is(OperationMode::FactoryTest),
-        3 => OperationCode::Is(OperationMode::Reset),
-        4 => OperationCode::Is(OperationMode::LowPower),
+        Some(0) => OperationCode::Is(OperationMode::Online),
+        Some(1) => OperationCode::Is(OperationMode::Offline),
+        Some(2) => OperationCode::Is(OperationMode::FactoryTest),
+        Some(3) => OperationCode::Is(OperationMode::Reset),
+        Some(4) => OperationCode::Is(OperationMode::LowPower),
         _ => OperationCode::Not,
     }
 }

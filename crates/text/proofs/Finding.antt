@@ -10,25 +10,26 @@ use borrow.Author.Tests.{eqb-false}
 use Rattle.text.proofs.AtIndex.{at_next, at_end}
 use Rattle.text.specs.Bytes.{starts_with, same, ends_with, index_of, count_of, has, within, all_within}
 
+-- what `position` finds, or the length where it finds none
+pub position_is : (p : ℕ → Bool) (s : List ℕ) → unwrap_or (position p s) (length s) ≡ position_or_len p s
+position_is p s = go (ltb k (length s)) (ltb-false k (length s)) (prefix_len-le-length (λ x. not (p x)) s)
+  where
+    k : ℕ
+    k = position_or_len p s
+    go : (t : Bool) → (t ≡ false → length s ≤ k) → k ≤ length s → unwrap_or (cond t (Some k) None) (length s) ≡ k
+    go true h l = refl
+    go false h l = let m = h refl in omega arith
+
 module _ (b : ℕ) where
   pub index_is : (s : List ℕ) → index_of b s ≡ position_or_len (λ x. eqb x b) s
   index_is = is_position_or_len (index_of b) (λ x. eqb x b) refl (λ x t. ap (cond (eqb x b) 0) (omega arith))
-
-  found : (s : List ℕ) (o : Option ℕ) → o ≡ position (λ x. eqb x b) s → unwrap_or o (length s) ≡ index_of b s
-  found s o e = rw (e, index_is s) (go (ltb k (length s)) (ltb-false k (length s)) (prefix_len-le-length (λ x. not (eqb x b)) s))
-    where
-      k : ℕ
-      k = position_or_len (λ x. eqb x b) s
-      go : (t : Bool) → (t ≡ false → length s ≤ k) → k ≤ length s → unwrap_or (cond t (Some k) None) (length s) ≡ k
-      go true h l = refl
-      go false h l = let m = h refl in omega arith
 
   -- what `position` finds in the rest of a line, or the rest's length where it finds none
   pub found_in : (s : List ℕ) (from : ℕ) (o : Option ℕ) → o ≡ position (λ x. eqb x b) (take (length s - from) (drop from s))
       → unwrap_or o (length (take (length s - from) (drop from s))) ≡ index_of b (drop from s)
   found_in s from o e =
       let z = take_all (length s - from) (drop from s) (omega (arith, length-drop from s)) in
-      found _ o e ∙ ap (index_of b) z
+      rw (e, z) (position_is (λ x. eqb x b) (drop from s) ∙ sym (index_is (drop from s)))
 
   count_step : (t : Bool) (n : ℕ) → cond t 1 0 + n ≡ cond t (1 + n) n
   count_step true n = refl

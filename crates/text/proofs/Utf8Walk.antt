@@ -212,12 +212,8 @@ pub record At (s : List ℕ) (n i : ℕ) : Type 0 where
   pub is : bit_and n 63 ≡ number state
   pub rest : utf8 s ≡ goes_on state (drop i s)
 
-pub utf8_end : (s : List ℕ) (i : ℕ) → utf8 s ≡ utf8 (drop i s) → length s ≤ i → true ≡ utf8 s
-unfolding utf8 behind
-utf8_end s i inv h = sym (inv ∙ ap utf8 (at_end s i h))
-
-pub at_begin : (s : List ℕ) (i : ℕ) → utf8 s ≡ utf8 (drop i s) → At s 0 i
-at_begin s i h = record { state = start; is = refl; rest = h }
+pub at_begin : (s : List ℕ) → At s 0 0
+at_begin s = record { state = start; is = refl; rest = refl }
 
 pub small : (n : ℕ) → bit_and n 63 < 64
 small n = omega (arith, and_le_r n 63)
