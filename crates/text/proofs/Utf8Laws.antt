@@ -1,11 +1,11 @@
 -- UTF-8: the test goes from character to character, what the lead bytes of the rows ask for, and the bytes that are passed as ASCII; the walk by bytes is Utf8Walk.antt.
-use Rattle.std.proofs.Common.{◌≡◌, ℕ, zero, suc, ◌+◌, ◌-◌, ◌*◌, ◌^◌, ◌<◌, ◌≤◌, Bool, true, false, cond, not, ◌&&◌, ◌||◌, T, eqb, ltb, leb, List, [], ◌∷◌, length, get_or, take, drop, sym, refl, ap, ◌∙◌, subst, add-zero, zero-add, arith, ltb→lt, length-drop, drop-drop, pow_pos, ltb-false, ltb-true, ne_eqb, le-leb, leb-true, leb-false, position, unwrap_or, Option, take_all, get_or-take, get_or-drop, w64, lit<, below_none, below_more}
+use Rattle.std.proofs.Common.{◌≡◌, ℕ, zero, suc, ◌+◌, ◌-◌, ◌*◌, ◌^◌, ◌/◌, ◌<◌, ◌≤◌, Bool, true, false, cond, not, ◌&&◌, ◌||◌, T, eqb, ltb, leb, List, [], ◌∷◌, length, get_or, take, drop, sym, refl, ap, ◌∙◌, subst, add-zero, zero-add, arith, ltb→lt, length-drop, drop-drop, pow_pos, ltb-false, ltb-true, ne_eqb, le-leb, leb-true, leb-false, position, unwrap_or, Option, take_all, get_or-take, get_or-drop, w64, lit<, below_none, below_more}
 use mathlib.Core.Bool.{false≢true, and-false}
 use native.Mathlib.Nat.{eq_of_mul-eq-mul_right}
 use lib.Bits.{bit_and, and_block}
 use Rattle.std.specs.Int.{from_le_bytes, sum_through, byte_worth}
 use Rattle.std.specs.List.{position_or_len}
-use Rattle.std.proofs.lemmas.List.{drop_all}
+use Rattle.std.specs.Simd.{first_chunks}
 use Rattle.std.proofs.lemmas.List.Sums.{prefix_len-le-length, fails_before_first}
 use borrow.Author.Tests.{lt-leb}
 use Rattle.text.specs.Bytes.{within}
@@ -114,49 +114,54 @@ module _ (s : List ℕ) where
       rw e
       (utf8_ascii s (a + n) (ascii_run a n (omega arith) inv (λ k l z. f k l (omega arith))) (omega arith) (f (a + n) (omega arith) (omega arith)))
 
+-- what is left of a text at k, as `&s[k..]` has it
+pub left_at : (s : List ℕ) (k : ℕ) → utf8 s ≡ utf8 (drop k s) → utf8 s ≡ utf8 (take (length s - k) (drop k s))
+left_at s k inv = let l = length-drop k s in let t = take_all (length s - k) (drop k s) (omega arith) in rw t inv
+
 -- up to the first byte that is not ASCII
-pub ascii_few : (s : List ℕ) (o : Option ℕ) → o ≡ position (leb 0x80) s
-    → utf8 s ≡ utf8 (take (length s - unwrap_or o (length s)) (drop (unwrap_or o (length s)) s))
-ascii_few s o e =
-    let n = position_or_len (leb 0x80) s in
-    let z : unwrap_or o (length s) ≡ n = rw e (position_is (leb 0x80) s) in
-    let l = length-drop n s in
-    let t = take_all (length s - n) (drop n s) (omega arith) in
-    let run = ascii_run s 0 n (omega (arith, prefix_len-le-length (λ x. not (leb 0x80 x)) s)) refl (λ k l h. leb-false 0x80 (get_or s k 0) (fails_before_first (leb 0x80) s k 0 (omega arith))) in
-    rw (z, t) (rw zero-add at run)
+pub ascii_few : (s : List ℕ) (n : ℕ) (o : Option ℕ) → n ≡ unwrap_or o (length s) → o ≡ position (leb 0x80) s → utf8 s ≡ utf8 (take (length s - n) (drop n s))
+ascii_few s n o is e =
+    let k = position_or_len (leb 0x80) s in
+    let z : n ≡ k = is ∙ rw e (position_is (leb 0x80) s) in
+    let run = ascii_run s 0 k (omega (arith, prefix_len-le-length (λ x. not (leb 0x80 x)) s)) refl (λ k l h. leb-false 0x80 (get_or s k 0) (fails_before_first (leb 0x80) s k 0 (omega arith))) in
+    rw z (left_at s k (rw zero-add at run))
 
--- what is left of a text, its end, is UTF-8 exactly where the text is
-pub record Behind (s rest : List ℕ) : Type 0 where
-  pub short : length rest ≤ length s
-  pub end : rest ≡ drop (length s - length rest) s
-  pub same : utf8 s ≡ utf8 rest
+chunk_at : (n k i : ℕ) (s : List ℕ) → i < k → get_or (first_chunks n k s) i [] ≡ take n (drop (n * i) s)
+chunk_at n zero i s h = absurd (omega arith)
+chunk_at n (suc k) zero s h = let z : n * 0 ≡ 0 = omega arith in rw z
+chunk_at n (suc k) (suc i) s h =
+    let z : n + n * i ≡ n * suc i = omega arith in
+    chunk_at n k i (drop n s) (omega arith) ∙ ap (take n) (drop-drop (n * i) n s ∙ ap (λ (m : ℕ). drop m s) z)
 
-pub behind_none : (s : List ℕ) → Behind s s
-behind_none s = let z : length s - length s ≡ 0 = omega arith in record { short = omega arith; end = rw z; same = refl }
-
-module _ (s rest : List ℕ) (b : Behind s rest) where
-  -- eight more are passed
-  pub behind_more : (eight after : List ℕ) → eight ≡ take 8 rest → after ≡ drop 8 rest → length after + 8 ≡ length rest → AsciiIn eight 0 8 → Behind s after
-  behind_more eight after e f l ascii = record {
-    short = omega (arith, b.short);
-    end =
-        let z : length s - length rest + 8 ≡ length s - length after = omega (arith, b.short) in
-        f ∙ ap (drop 8) b.end ∙ drop-drop 8 (length s - length rest) s ∙ ap (λ (n : ℕ). drop n s) z;
-    same = b.same ∙ ascii_run rest 0 8 (omega arith) refl (λ k m h. rw (← get_or-take 8 rest k 0 (omega arith), ← e) (ascii k m h)) ∙ ap utf8 (sym f);
-  }
+-- i chunks of eight are passed
+module _ (s : List ℕ) (i : ℕ) (inv : utf8 s ≡ utf8 (drop (8 * i) s)) where
+  pub eight_more : (chunks : List (List ℕ)) → chunks ≡ first_chunks 8 (length s / 8) s → length chunks ≡ length s / 8 → i < length chunks → AsciiIn (get_or chunks i []) 0 8
+      → utf8 s ≡ utf8 (drop (8 * (i + 1)) s)
+  eight_more chunks e l h ascii =
+      let z : 8 * (i + 1) ≡ 8 * i + 8 = omega arith in
+      let c : get_or chunks i [] ≡ take 8 (drop (8 * i) s) = ap (λ (cs : List (List ℕ)). get_or cs i []) e ∙ chunk_at 8 (length s / 8) i s (omega arith) in
+      rw z
+      (ascii_run s (8 * i) 8 (omega arith) inv
+      (λ k m n.
+      let x : 8 * i + (k - 8 * i) ≡ k = omega arith in
+      let y = ascii (k - 8 * i) (omega arith) (omega arith) in
+      let w : get_or (get_or chunks i []) (k - 8 * i) 0 ≡ get_or s k 0 =
+          ap (λ (t : List ℕ). get_or t (k - 8 * i) 0) c ∙ get_or-take 8 (drop (8 * i) s) (k - 8 * i) 0 (omega arith) ∙ get_or-drop (8 * i) s (k - 8 * i) 0 ∙ ap (λ (n : ℕ). get_or s n 0) x in
+      omega arith))
 
   -- fewer than eight are left, and the last eight are ASCII
-  pub behind_all : (last : List ℕ) → 8 ≤ length s → length rest < 8 → last ≡ drop (length s - 8) s → AsciiIn last 0 8
+  pub last_eight : (last : List ℕ) → 8 ≤ length s → length s < 8 * i + 8 → 8 * i ≤ length s → last ≡ drop (length s - 8) s → AsciiIn last 0 8
       → utf8 s ≡ utf8 (take (length s - length s) (drop (length s) s))
-  behind_all last h few e ascii =
-      let i = length s - length rest in
-      let z : i + length rest ≡ length s = omega (arith, b.short) in
-      let y : length s - length s ≡ 0 = omega arith in
-      rw y (ascii_run s i (length rest) (omega arith) (b.same ∙ ap utf8 b.end)
-      (λ k l m.
-      let x : length s - 8 + (k - (length s - 8)) ≡ k = omega arith in
-      rw (← x, ← get_or-drop (length s - 8) s (k - (length s - 8)) 0, ← e) (ascii (k - (length s - 8)) (omega arith) (omega arith)))
-      ∙ ap utf8 (ap (λ (n : ℕ). drop n s) z ∙ drop_all (length s) s (omega arith)))
+  last_eight last h few room e ascii =
+      let z : 8 * i + (length s - 8 * i) ≡ length s = omega arith in
+      let run = ascii_run s (8 * i) (length s - 8 * i) (omega arith) inv
+          (λ k l m.
+          let x : length s - 8 + (k - (length s - 8)) ≡ k = omega arith in
+          let y = ascii (k - (length s - 8)) (omega arith) (omega arith) in
+          let w : get_or last (k - (length s - 8)) 0 ≡ get_or s k 0 =
+              ap (λ (t : List ℕ). get_or t (k - (length s - 8)) 0) e ∙ get_or-drop (length s - 8) s (k - (length s - 8)) 0 ∙ ap (λ (n : ℕ). get_or s n 0) x in
+          omega arith) in
+      left_at s (length s) (rw z at run)
 
 pub utf8_none : (s : List ℕ) → length s ≡ 0 → utf8 s ≡ true
 unfolding utf8 behind

@@ -50,17 +50,16 @@ fn behind_ascii(s: &[u8]) -> &[u8]
         let few = s.iter().position(|x| 0x80 <= *x).unwrap_or(s.len());
         return &s[few..];
     };
-    let mut rest = s;
-    while let Some((eight, after)) = rest.split_first_chunk() {
+    let (chunks, _) = s.as_chunks();
+    for (i, eight) in chunks.iter().enumerate() {
         if !are_ascii(eight) {
-            return rest;
+            return &s[8 * i..];
         }
-        rest = after;
     }
     if are_ascii(last) {
         return &s[s.len()..];
     }
-    rest
+    &s[8 * chunks.len()..]
 }
 
 // Whether s is UTF-8. Most lines are ASCII.
