@@ -21,7 +21,7 @@ position_is p s = go (ltb k (length s)) (ltb-false k (length s)) (prefix_len-le-
     go false h l = let m = h refl in omega arith
 
 module _ (b : ℕ) where
-  pub index_is : (s : List ℕ) → index_of b s ≡ position_or_len (λ x. eqb x b) s
+  index_is : (s : List ℕ) → index_of b s ≡ position_or_len (λ x. eqb x b) s
   index_is = is_position_or_len (index_of b) (λ x. eqb x b) refl (λ x t. ap (cond (eqb x b) 0) (omega arith))
 
   -- what `position` finds in the rest of a line, or the rest's length where it finds none
@@ -38,7 +38,7 @@ module _ (b : ℕ) where
   pub count_is : (s : List ℕ) → count_of b s ≡ count_by (λ x. eqb x b) s
   count_is = is_count_by (count_of b) (λ x. eqb x b) refl (λ x t. count_step (eqb x b) (count_of b t))
 
-  pub count_append : (s t : List ℕ) → count_of b (s ++ t) ≡ count_of b s + count_of b t
+  count_append : (s t : List ℕ) → count_of b (s ++ t) ≡ count_of b s + count_of b t
   count_append s t = count_is (s ++ t) ∙ sum_by-append (λ x. cond (eqb x b) 1 0) s t ∙ sym (ap (λ (n : ℕ). n + count_of b t) (count_is s) ∙ ap (λ (n : ℕ). count_by (λ x. eqb x b) s + n) (count_is t))
 
   -- one turn of `count_byte`, which takes the front off what is left
@@ -112,8 +112,6 @@ ends_is s p h =
     let l = length-drop (length s - length p) s in
     let z = take_all (length s - (length s - length p)) (drop (length s - length p) s) (omega arith) in
     rw (z, eq-eqb (length (drop (length s - length p) s)) (length p) (omega arith))
-
-pub ruleset words = (has_is, same_is)
 
 pub other_length : (s t : List ℕ) → (length s ≡ length t → ⊥) → false ≡ same s t
 unfolding same

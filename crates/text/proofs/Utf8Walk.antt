@@ -192,12 +192,6 @@ module _ (x n : ℕ) (h : x < 256) (is : n ≡ letter x) where
   pub letter_few : n - 97 < 12
   letter_few = omega (arith, few)
 
-  pub letter_fits : Fits w64 (n - 97)
-  letter_fits = record { fits = omega (arith, few) }
-
-  pub letter_offset : Fits w64 ((n - 97) * 8)
-  letter_offset = record { fits = omega (arith, few) }
-
 -- the rows of the kinds, each by a byte that is of it
 abbrev pub kind_rows : List ℕ
 kind_rows = row 0x00 ∷ row 0x80 ∷ row 0x90 ∷ row 0xA0 ∷ row 0xC2 ∷ row 0xE0 ∷ row 0xE1 ∷ row 0xED ∷ row 0xF0 ∷ row 0xF1 ∷ row 0xF4 ∷ row 0xC0 ∷ []
@@ -214,9 +208,6 @@ pub record At (s : List ℕ) (n i : ℕ) : Type 0 where
 
 pub at_begin : (s : List ℕ) → At s 0 0
 at_begin s = record { state = start; is = refl; rest = refl }
-
-pub small : (n : ℕ) → bit_and n 63 < 64
-small n = omega (arith, and_le_r n 63)
 
 module _ (s : List ℕ) (n i : ℕ) (a : At s n i) where
   pub at_more : (x m : ℕ) → i < length s → x ≡ get_or s i 0 → x < 256 → m ≡ letter x → At s (get_or kind_rows (m - 97) 0 / 2 ^ bit_and n 63) (i + 1)

@@ -1,5 +1,5 @@
 // Tests on a line's bytes, and where a byte stands.
-#![tactic(auto, using(crate::proofs::Finding::words))]
+#![tactic(auto, using(crate::proofs::Finding::has_is, crate::proofs::Finding::same_is))]
 
 ghost use Rattle.std.specs.Prelude.{◌≡◌, ◌+◌, ◌<◌, length, drop, slice_index};
 ghost use Rattle.text.specs.Bytes.{same, starts_with, ends_with, index_of, count_of, has, all_within, all_digits};

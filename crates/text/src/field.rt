@@ -11,7 +11,7 @@ pub fn field_start(s: &[u8], b: u8, n: usize) -> usize
     ensures { Gives (place_of n (fields b s.now)) result }
 {
     let mut at = 0;
-    for k in 0..n {
+    for _k in 0..n {
         let e = bytes::find(s, at, b);
         if s.len() <= e {
             return s.len() + 1;

@@ -109,12 +109,12 @@ pub fn field_starts(line: &[u8]) -> [usize; 22]
     FieldReader::new(line).starts()
 }
 
-// Field n of a line, counted from 0; empty past the last.
+// Field n of a line, counted from 0; empty past the last. Document 01 wants the fields of a line from a reader; `field::field` goes without one, at any separator.
 pub fn nth_field(line: &[u8], n: usize) -> &[u8]
     ensures { IsPart line.entry result (place_of n (fields 44 line.now)) (nth n (fields 44 line.now)) }
 {
     let mut r = FieldReader::new(line);
-    for k in 0..n {
+    for _k in 0..n {
         if r.ended() {
             break;
         }
