@@ -3,7 +3,7 @@ use Rattle.std.proofs.Common.{◌≡◌, ℕ, suc, ◌+◌, ◌-◌, ◌<◌, Bo
 use mathlib.Core.Bool.{and-false}
 use lib.Dec.{leb-suc-suc, eqb-suc-suc, eqb-zero-suc, eqb-suc-zero}
 use Rattle.std.specs.Cmp.Lexicographic.{pointwise}
-use Rattle.std.specs.List.{position, slice_range, position_or_len, count_by, list_any, list_all}
+use Rattle.std.specs.List.{position, position_or_len, count_by, list_any, list_all}
 use Rattle.std.proofs.lemmas.List.Sums.{prefix_len-le-length, sum_by-append}
 use Rattle.std.proofs.lemmas.List.Recursion.{is_position_or_len, is_count_by}
 use borrow.Author.Tests.{eqb-false}
@@ -16,6 +16,7 @@ position_is p s = go (ltb k (length s)) (ltb-false k (length s)) (prefix_len-le-
   where
     k : ℕ
     k = position_or_len p s
+
     go : (t : Bool) → (t ≡ false → length s ≤ k) → k ≤ length s → unwrap_or (cond t (Some k) None) (length s) ≡ k
     go true h l = refl
     go false h l = let m = h refl in omega arith

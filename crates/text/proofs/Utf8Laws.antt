@@ -1,5 +1,5 @@
 -- UTF-8: the test goes from character to character, what the lead bytes of the rows ask for, and the bytes that are passed as ASCII; the walk by bytes is Utf8Walk.antt.
-use Rattle.std.proofs.Common.{◌≡◌, ℕ, zero, suc, ◌+◌, ◌-◌, ◌*◌, ◌^◌, ◌/◌, ◌<◌, ◌≤◌, Bool, true, false, cond, not, ◌&&◌, ◌||◌, T, eqb, ltb, leb, List, [], ◌∷◌, length, get_or, take, drop, sym, refl, ap, ◌∙◌, subst, add-zero, zero-add, arith, ltb→lt, length-drop, drop-drop, pow_pos, ltb-false, ltb-true, ne_eqb, le-leb, leb-true, leb-false, position, unwrap_or, Option, take_all, get_or-take, get_or-drop, w64, lit<, below_none, below_more}
+use Rattle.std.proofs.Common.{◌≡◌, ℕ, zero, suc, ◌+◌, ◌-◌, ◌*◌, ◌^◌, ◌/◌, ◌<◌, ◌≤◌, Bool, true, false, cond, not, ◌&&◌, ◌||◌, T, eqb, ltb, leb, List, [], ◌∷◌, length, get_or, take, drop, sym, refl, ap, ◌∙◌, subst, add-zero, zero-add, arith, ltb→lt, length-drop, drop-drop, pow_pos, ltb-true, ne_eqb, le-leb, leb-true, leb-false, position, unwrap_or, Option, take_all, get_or-take, get_or-drop, w64, lit<, below_none, below_more}
 use mathlib.Core.Bool.{false≢true, and-false}
 use native.Mathlib.Nat.{eq_of_mul-eq-mul_right}
 use lib.Bits.{bit_and, and_block}
@@ -146,7 +146,7 @@ module _ (s : List ℕ) (i : ℕ) (inv : utf8 s ≡ utf8 (drop (8 * i) s)) where
       let x : 8 * i + (k - 8 * i) ≡ k = omega arith in
       let y = ascii (k - 8 * i) (omega arith) (omega arith) in
       let w : get_or (get_or chunks i []) (k - 8 * i) 0 ≡ get_or s k 0 =
-          ap (λ (t : List ℕ). get_or t (k - 8 * i) 0) c ∙ get_or-take 8 (drop (8 * i) s) (k - 8 * i) 0 (omega arith) ∙ get_or-drop (8 * i) s (k - 8 * i) 0 ∙ ap (λ (n : ℕ). get_or s n 0) x in
+      ap (λ (t : List ℕ). get_or t (k - 8 * i) 0) c ∙ get_or-take 8 (drop (8 * i) s) (k - 8 * i) 0 (omega arith) ∙ get_or-drop (8 * i) s (k - 8 * i) 0 ∙ ap (λ (n : ℕ). get_or s n 0) x in
       omega arith))
 
   -- fewer than eight are left, and the last eight are ASCII
@@ -155,12 +155,12 @@ module _ (s : List ℕ) (i : ℕ) (inv : utf8 s ≡ utf8 (drop (8 * i) s)) where
   last_eight last h few room e ascii =
       let z : 8 * i + (length s - 8 * i) ≡ length s = omega arith in
       let run = ascii_run s (8 * i) (length s - 8 * i) (omega arith) inv
-          (λ k l m.
-          let x : length s - 8 + (k - (length s - 8)) ≡ k = omega arith in
-          let y = ascii (k - (length s - 8)) (omega arith) (omega arith) in
-          let w : get_or last (k - (length s - 8)) 0 ≡ get_or s k 0 =
-              ap (λ (t : List ℕ). get_or t (k - (length s - 8)) 0) e ∙ get_or-drop (length s - 8) s (k - (length s - 8)) 0 ∙ ap (λ (n : ℕ). get_or s n 0) x in
-          omega arith) in
+      (λ k l m.
+      let x : length s - 8 + (k - (length s - 8)) ≡ k = omega arith in
+      let y = ascii (k - (length s - 8)) (omega arith) (omega arith) in
+      let w : get_or last (k - (length s - 8)) 0 ≡ get_or s k 0 =
+      ap (λ (t : List ℕ). get_or t (k - (length s - 8)) 0) e ∙ get_or-drop (length s - 8) s (k - (length s - 8)) 0 ∙ ap (λ (n : ℕ). get_or s n 0) x in
+      omega arith) in
       left_at s (length s) (rw z at run)
 
 pub utf8_none : (s : List ℕ) → length s ≡ 0 → utf8 s ≡ true

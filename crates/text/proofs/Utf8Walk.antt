@@ -1,7 +1,7 @@
 -- A walk over the bytes of a text from state to state tells whether it is UTF-8. Assumes nothing.
-use Rattle.std.proofs.Common.{◌≡◌, ℕ, zero, suc, ◌+◌, ◌-◌, ◌*◌, ◌/◌, ◌^◌, ◌<◌, ◌≤◌, Bool, true, false, cond, ◌&&◌, eqb, ltb, leb, List, [], ◌∷◌, length, get_or, take, drop, sym, refl, ap, ◌∙◌, arith, eqb→eq, ltb→lt, w64, Fits, leb-false, leb-true}
+use Rattle.std.proofs.Common.{◌≡◌, ℕ, zero, suc, ◌+◌, ◌-◌, ◌*◌, ◌/◌, ◌^◌, ◌<◌, ◌≤◌, Bool, true, false, cond, ◌&&◌, eqb, ltb, leb, List, [], ◌∷◌, length, get_or, take, drop, sym, refl, ap, ◌∙◌, arith, eqb→eq, ltb→lt, leb-false, leb-true}
 use mathlib.Core.Bool.{and-false}
-use lib.Bits.{bit_and, and_le_r}
+use lib.Bits.{bit_and}
 use borrow.Author.Tests.{lt-leb}
 use Rattle.text.specs.Bytes.{within}
 use Rattle.text.specs.Utf8.{Range, to, tail, rows, fits, char_size, behind, utf8}

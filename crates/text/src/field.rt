@@ -6,7 +6,8 @@ ghost use Rattle.text.specs.Gives.{Gives};
 
 use crate::{bytes, part};
 
-// Where field n of s begins, counted from 0, where b parts the fields; one past the end where there is none.
+// Where field n of s begins, counted from 0, where b parts the fields; one past the end where there
+// is none.
 pub fn field_start(s: &[u8], b: u8, n: usize) -> usize
     ensures { Gives (place_of n (fields b s.now)) result }
 {

@@ -3,10 +3,12 @@ ghost use Rattle.std.specs.Prelude.{◌≡◌, IsTrue};
 ghost use Rattle.text.specs.Gives.{Gives};
 ghost use Rattle.text.specs.Utf8.{utf8, AsciiIn};
 
-// Whether s is UTF-8. No branch on the bytes: nine states by what must follow, which are nothing (0), one, two or three UTF8-tails (6, 12, 18),
-// what E0, ED, F0 and F4 want (24, 30, 36, 42), and what no text has (48). Bytes that every state takes alike are of one kind, a letter. A kind's
-// row has the state behind it for each state before it, six bits at that state's number, so a shift finds it: two octal digits to a state, the
-// first state last. The compiler lays both tables on the stack at each call: it is not called where all is passed.
+// Whether s is UTF-8. No branch on the bytes: nine states by what must follow, which are nothing
+// (0), one, two or three UTF8-tails (6, 12, 18), what E0, ED, F0 and F4 want (24, 30, 36, 42), and
+// what no text has (48). Bytes that every state takes alike are of one kind, a letter. A kind's row
+// has the state behind it for each state before it, six bits at that state's number, so a shift
+// finds it: two octal digits to a state, the first state last. The compiler lays both tables on the
+// stack at each call: it is not called where all is passed.
 fn all_chars(s: &[u8]) -> bool
     ensures { result ≡ utf8 s.now }
 {
@@ -41,8 +43,8 @@ fn are_ascii(eight: &[u8; 8]) -> bool
     u64::from_le_bytes(*eight) & 0x8080_8080_8080_8080 == 0
 }
 
-// What is left of s where ASCII bytes are passed, eight at a time, up to the first eight that are not all ASCII. The last eight may lie over some that
-// are passed.
+// What is left of s where ASCII bytes are passed, eight at a time, up to the first eight that are
+// not all ASCII. The last eight may lie over some that are passed.
 fn behind_ascii(s: &[u8]) -> &[u8]
     ensures { utf8 s.now ≡ utf8 result.now }
 {

@@ -6,5 +6,5 @@ use Rattle.text.proofs.Finding.{within_is}
 use Rattle.text.proofs.bytes.all_digits.Goals as goal
 
 pub returns : goal.returns
-returns c = let a = c.args in 
+returns c = let a = c.args in
     all_from_yields_List is_digit _ _ _ c.all.ensures.ran (YieldsList-from_slice a.s.now cc) (λ x b q k. search (rules, tests)) ∙ sym (within_is 48 57 a.s.now)

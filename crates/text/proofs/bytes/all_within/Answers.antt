@@ -6,5 +6,5 @@ use Rattle.text.proofs.Finding.{within_is}
 use Rattle.text.proofs.bytes.all_within.Goals as goal
 
 pub returns : goal.returns
-returns c = let a = c.args in 
+returns c = let a = c.args in
     all_from_yields_List (within a.lo a.hi) _ _ _ c.all.ensures.ran (YieldsList-from_slice a.s.now cc) (λ x b q k. search (rules, tests)) ∙ sym (within_is a.lo a.hi a.s.now)

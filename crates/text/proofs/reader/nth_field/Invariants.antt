@@ -1,5 +1,5 @@
 -- The reader stands on the line, k fields on from its start; what is left of n goes down.
-use Rattle.std.proofs.Common.{◌≡◌, ◌-◌, ◌≤◌}
+use Rattle.std.proofs.Common.{◌≡◌, ◌≤◌}
 use Rattle.text.specs.Reader.{stands_at}
 use Rattle.text.proofs.reader.nth_field.Given as goal
 

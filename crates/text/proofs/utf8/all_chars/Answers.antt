@@ -1,4 +1,4 @@
-use Rattle.std.proofs.Common.{ℕ, ◌<◌, get_or, refl, sym, subst, arith, rules}
+use Rattle.std.proofs.Common.{ℕ, ◌<◌, get_or, sym, subst, arith, rules}
 use Rattle.text.proofs.Below.{tabled, entry}
 use Rattle.text.proofs.Utf8Walk.{row, at_begin, letter, letter_least, letter_few, at_more, at_last}
 use Rattle.text.proofs.utf8.all_chars.Goals as goal

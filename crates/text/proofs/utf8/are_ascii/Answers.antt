@@ -1,4 +1,4 @@
-use Rattle.std.proofs.Common.{eqb-true, ap, ◌∙◌, rules}
+use Rattle.std.proofs.Common.{eqb-true}
 use Rattle.text.proofs.Utf8Laws.{ascii_eight}
 use Rattle.text.proofs.utf8.are_ascii.Goals as goal
 

@@ -1,4 +1,4 @@
-use Rattle.std.proofs.Common.{◌≡◌, ◌*◌, ◌+◌, leb, length, position, arith, rules, tests}
+use Rattle.std.proofs.Common.{◌≡◌, ◌*◌, leb, length, position, arith, rules, tests}
 use Rattle.std.proofs.lemmas.Iterator.{YieldsList-from_slice}
 use Rattle.std.proofs.lemmas.Iterator.Search.{position_from_yields_List}
 use Rattle.text.proofs.Utf8Laws.{left_at, ascii_few, eight_more, last_eight}
