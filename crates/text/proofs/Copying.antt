@@ -1,6 +1,6 @@
 -- Bytes laid into a buffer one by one; and what is laid where the buffer has room for all of them. Assumes nothing.
-use Rattle.std.proofs.Common.{◌≡◌, ℕ, ◌+◌, ◌-◌, ◌<◌, ◌≤◌, Bool, true, false, cond, ltb, List, ◌++◌, length, get_or, take, drop, set, sym, refl, ap, ◌∙◌, le_antisymm, add-one, arith, ltb-false, ltb-true, le-ltb, lt-ltb, min, drop-drop, append_assoc}
-use lib.Seq.{paste, paste-zero, paste-suc, take-length}
+use Rattle.std.proofs.Common.{◌≡◌, ℕ, ◌+◌, ◌-◌, ◌<◌, ◌≤◌, Bool, true, false, cond, ltb, List, ◌++◌, length, take, drop, sym, refl, ap, ◌∙◌, arith, ltb-false, ltb-true, min, drop-drop, append_assoc}
+use lib.Seq.{paste, paste-zero, take-length}
 use borrow.Rule.Slice.PartMut.{put_mid}
 use Rattle.text.specs.Copy.{least, room_for, LayKeeps}
 

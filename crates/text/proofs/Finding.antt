@@ -3,33 +3,34 @@ use Rattle.std.proofs.Common.{◌≡◌, ℕ, suc, ◌+◌, ◌-◌, ◌<◌, Bo
 use mathlib.Core.Bool.{and-false}
 use lib.Dec.{leb-suc-suc, eqb-suc-suc, eqb-zero-suc, eqb-suc-zero}
 use Rattle.std.specs.Cmp.Lexicographic.{pointwise}
-use Rattle.std.specs.List.{position, slice_range, position_or_len, count_by, list_any, list_all}
+use Rattle.std.specs.List.{position, position_or_len, count_by, list_any, list_all}
 use Rattle.std.proofs.lemmas.List.Sums.{prefix_len-le-length, sum_by-append}
 use Rattle.std.proofs.lemmas.List.Recursion.{is_position_or_len, is_count_by}
 use borrow.Author.Tests.{eqb-false}
 use Rattle.text.proofs.AtIndex.{at_next, at_end}
 use Rattle.text.specs.Bytes.{starts_with, same, ends_with, index_of, count_of, has, within, all_within}
 
+-- what `position` finds, or the length where it finds none
+pub position_is : (p : ℕ → Bool) (s : List ℕ) → unwrap_or (position p s) (length s) ≡ position_or_len p s
+position_is p s = go (ltb k (length s)) (ltb-false k (length s)) (prefix_len-le-length (λ x. not (p x)) s)
+  where
+    k : ℕ
+    k = position_or_len p s
+
+    go : (t : Bool) → (t ≡ false → length s ≤ k) → k ≤ length s → unwrap_or (cond t (Some k) None) (length s) ≡ k
+    go true h l = refl
+    go false h l = let m = h refl in omega arith
+
 module _ (b : ℕ) where
-  pub index_is : (s : List ℕ) → index_of b s ≡ position_or_len (λ x. eqb x b) s
+  index_is : (s : List ℕ) → index_of b s ≡ position_or_len (λ x. eqb x b) s
   index_is = is_position_or_len (index_of b) (λ x. eqb x b) refl (λ x t. ap (cond (eqb x b) 0) (omega arith))
-
-  found : (s : List ℕ) (o : Option ℕ) → o ≡ position (λ x. eqb x b) s → unwrap_or o (length s) ≡ index_of b s
-  found s o e = rw (e, index_is s) (go (ltb k (length s)) (ltb-false k (length s)) (prefix_len-le-length (λ x. not (eqb x b)) s))
-    where
-      k : ℕ
-      k = position_or_len (λ x. eqb x b) s
-
-      go : (t : Bool) → (t ≡ false → length s ≤ k) → k ≤ length s → unwrap_or (cond t (Some k) None) (length s) ≡ k
-      go true h l = refl
-      go false h l = let m = h refl in omega arith
 
   -- what `position` finds in the rest of a line, or the rest's length where it finds none
   pub found_in : (s : List ℕ) (from : ℕ) (o : Option ℕ) → o ≡ position (λ x. eqb x b) (take (length s - from) (drop from s))
       → unwrap_or o (length (take (length s - from) (drop from s))) ≡ index_of b (drop from s)
   found_in s from o e =
       let z = take_all (length s - from) (drop from s) (omega (arith, length-drop from s)) in
-      found _ o e ∙ ap (index_of b) z
+      rw (e, z) (position_is (λ x. eqb x b) (drop from s) ∙ sym (index_is (drop from s)))
 
   count_step : (t : Bool) (n : ℕ) → cond t 1 0 + n ≡ cond t (1 + n) n
   count_step true n = refl
@@ -38,7 +39,7 @@ module _ (b : ℕ) where
   pub count_is : (s : List ℕ) → count_of b s ≡ count_by (λ x. eqb x b) s
   count_is = is_count_by (count_of b) (λ x. eqb x b) refl (λ x t. count_step (eqb x b) (count_of b t))
 
-  pub count_append : (s t : List ℕ) → count_of b (s ++ t) ≡ count_of b s + count_of b t
+  count_append : (s t : List ℕ) → count_of b (s ++ t) ≡ count_of b s + count_of b t
   count_append s t = count_is (s ++ t) ∙ sum_by-append (λ x. cond (eqb x b) 1 0) s t ∙ sym (ap (λ (n : ℕ). n + count_of b t) (count_is s) ∙ ap (λ (n : ℕ). count_by (λ x. eqb x b) s + n) (count_is t))
 
   -- one turn of `count_byte`, which takes the front off what is left
@@ -112,8 +113,6 @@ ends_is s p h =
     let l = length-drop (length s - length p) s in
     let z = take_all (length s - (length s - length p)) (drop (length s - length p) s) (omega arith) in
     rw (z, eq-eqb (length (drop (length s - length p) s)) (length p) (omega arith))
-
-pub ruleset words = (has_is, same_is)
 
 pub other_length : (s t : List ℕ) → (length s ≡ length t → ⊥) → false ≡ same s t
 unfolding same

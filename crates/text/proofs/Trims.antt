@@ -1,5 +1,5 @@
 -- Bytes that go at the ends of a line. Assumes nothing.
-use Rattle.std.proofs.Common.{◌≡◌, ℕ, suc, ◌+◌, ◌-◌, ◌<◌, ◌≤◌, Bool, true, false, cond, eqb, List, [], ◌∷◌, ◌++◌, length, get_or, take, drop, sym, refl, ap, ◌∙◌, arith, length-drop, length-take, length-take-le, take-suc, Bor, eq-eqb, ne_eqb, eqb-true, not, ◌||◌, ltb, ltb-true, ltb-false, Option, Some, None, unwrap_or, position}
+use Rattle.std.proofs.Common.{◌≡◌, ℕ, suc, ◌+◌, ◌-◌, ◌<◌, ◌≤◌, Bool, true, false, cond, eqb, List, [], ◌∷◌, ◌++◌, length, get_or, take, drop, sym, refl, ap, ◌∙◌, arith, length-drop, length-take, length-take-le, take-suc, Bor, eq-eqb, ne_eqb, eqb-true, not, ◌||◌, ltb, ltb-true, ltb-false, Some, None, unwrap_or, position}
 use mathlib.Core.Bool.{or_self_left}
 use lib.Seq.{take-length}
 use Rattle.std.specs.List.{position_or_len}
@@ -7,7 +7,6 @@ use Rattle.std.proofs.lemmas.List.Sums.{prefix_len-le-length}
 use Rattle.std.proofs.lemmas.List.Recursion.{is_position_or_len}
 use borrow.Author.Tests.{eqb-false}
 use Rattle.text.specs.Part.{IsPart, part_of, among, trim_front, keep, trim_end, trimmed, leading, trim_place}
-use Rattle.text.proofs.AtIndex.{at_next, at_end}
 use Rattle.text.proofs.Parts.{from_start, part_as}
 
 -- a byte that is one of two, and one that is neither

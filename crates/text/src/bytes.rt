@@ -1,5 +1,5 @@
 // Tests on a line's bytes, and where a byte stands.
-#![tactic(auto, using(crate::proofs::Finding::words))]
+#![tactic(auto, using(crate::proofs::Finding::has_is, crate::proofs::Finding::same_is))]
 
 ghost use Rattle.std.specs.Prelude.{◌≡◌, ◌+◌, ◌<◌, length, drop, slice_index};
 ghost use Rattle.text.specs.Bytes.{same, starts_with, ends_with, index_of, count_of, has, all_within, all_digits};
@@ -14,7 +14,8 @@ pub fn byte_at(s: &[u8], i: usize) -> u8
     s.get(i).copied().unwrap_or(0)
 }
 
-// The index of the first b of s at or after `from`: where there is none, the length, or `from` where that is larger.
+// The index of the first b of s at or after `from`: where there is none, the length, or `from`
+// where that is larger.
 pub fn find(s: &[u8], from: usize, b: u8) -> usize
     ensures { Gives (from + index_of b (drop from s.now)) result }
 {
@@ -32,8 +33,8 @@ pub fn has_byte(s: &[u8], b: u8) -> bool
     s.contains(&b)
 }
 
-// How often b stands in s, a text of at most 255 bytes. The count is a byte too, so that the compiler counts in sixteen places at once:
-// `filter` and `count` took twice as long.
+// How often b stands in s, a text of at most 255 bytes. The count is a byte too, so that the
+// compiler counts in sixteen places at once: `filter` and `count` took twice as long.
 fn count_few(s: &[u8], b: u8) -> u8
     requires { length s.now < 256 }
     ensures { result ≡ count_of b s.now }
@@ -59,7 +60,8 @@ pub fn count_byte(s: &[u8], b: u8) -> usize
     n
 }
 
-// Whether s begins with p. Most lines differ early: a slice's own `starts_with`, which compares many bytes at once, took up to 2.3 times as long at them.
+// Whether s begins with p. Most lines differ early: a slice's own `starts_with`, which compares
+// many bytes at once, took up to 2.3 times as long at them.
 pub fn starts_with(s: &[u8], p: &[u8]) -> bool
     ensures { Gives (starts_with p.now s.now) result }
 {

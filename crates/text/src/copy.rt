@@ -9,7 +9,8 @@ pub fn least(a: usize, b: usize) -> usize
     a.min(b)
 }
 
-// Lays the piece into out from index `at` on, or as much of it as has room there, and says where it ends.
+// Lays the piece into out from index `at` on, or as much of it as has room there, and says where it
+// ends.
 pub fn lay(piece: &[u8], at: usize, out: &mut [u8]) -> usize
     ensures { LayKeeps piece.now at out.old result out.new }
 {

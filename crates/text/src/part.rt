@@ -13,7 +13,8 @@ pub struct Place {
     pub end: usize,
 }
 
-// The bytes from a up to e: an end past the length is the length, and a start past the end gives none.
+// The bytes from a up to e: an end past the length is the length, and a start past the end gives
+// none.
 pub fn part(s: &[u8], a: usize, e: usize) -> &[u8]
     ensures { IsPart s.entry result a (part_of s.now a e) }
 {

@@ -1,6 +1,5 @@
-use Rattle.std.proofs.Common.{◌≡◌, ◌+◌, arith, rules, ap, sym, ◌∙◌, length}
-use Rattle.std.specs.Slice.Iter.{chunks_rest, chunks_size}
-use Rattle.text.specs.Bytes.{count_of}
+use Rattle.std.proofs.Common.{arith, ◌∙◌}
+use Rattle.std.specs.Slice.Iter.{chunks_rest}
 use Rattle.text.proofs.Finding.{count_turn, count_none}
 use Rattle.text.proofs.Parts.{count_le}
 use Rattle.text.proofs.bytes.count_byte.Goals as goal

@@ -1,4 +1,4 @@
-use Rattle.std.proofs.Common.{◌≡◌, ◌+◌, ◌<◌, length, take, take_all, sym, ◌∙◌, ap, arith, count_by, eqb}
+use Rattle.std.proofs.Common.{take_all, sym, ◌∙◌, ap, arith, count_by, eqb}
 use Rattle.text.proofs.Finding.{count_is}
 use Rattle.text.proofs.bytes.count_few.Goals as goal
 

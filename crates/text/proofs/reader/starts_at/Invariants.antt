@@ -1,5 +1,4 @@
 -- Each turn stores the place behind a byte, and keeps it where the byte is a comma.
-use Rattle.std.proofs.Common.{◌-◌, length}
 use Rattle.text.proofs.ReaderStarts.{Found}
 use Rattle.text.proofs.reader.starts_at.Given as goal
 
