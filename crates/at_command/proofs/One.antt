@@ -2,17 +2,24 @@
 use mathlib.Core.Path.{◌≡◌, refl, ap}
 use mathlib.Core.Bool.{cond}
 use mathlib.Core.List.{List}
-use mathlib.Core.Option.{Option}
+use mathlib.Core.Option.{Option, none, some}
+use lib.Ieee.{Float}
 use Prim.Native.Nat.{ℕ}
 use lib.Dec.{eqb}
 use Rattle.text.specs.Part.{Span}
 use Rattle.text.specs.Reading.{Mark}
 use Rattle.text.specs.declared.part.Place.{Place}
-use Rattle.text.proofs.One.{one_answer, option, answer}
+use Rattle.std.specs.Prelude as Std
+use Rattle.std.specs.Prelude.{Result, Ok, Err}
+use Rattle.text.specs.declared.handed.TextAt.{TextAt}
+use Rattle.text.specs.declared.handed.TextAt.TheVariants as N
+use Rattle.text.specs.declared.refusal.Refusal.{Refusal}
+use Rattle.text.proofs.One.{one_answer, one_reading, option, back_option}
 use Rattle.at_command.specs.Ccid.{Card}
 use Rattle.at_command.specs.Cntp.{NetTime}
 use Rattle.at_command.specs.Cops.{Name, in_line, in_fallback, Operator}
 use Rattle.at_command.specs.Cpsi.{System}
+use Rattle.at_command.specs.Csq.{Signal}
 use Rattle.at_command.specs.Generic.{Fault, generic, cme, cms}
 use Rattle.at_command.specs.Gsn.{Identity}
 use Rattle.at_command.specs.Httptofs.{Download}
@@ -29,6 +36,8 @@ use Rattle.at_command.specs.says.Cops as Cops
 use Rattle.at_command.specs.says.Cops.{OperatorInfoKeeps}
 use Rattle.at_command.specs.says.Cpsi as Cpsi
 use Rattle.at_command.specs.says.Cpsi.{SystemInfoKeeps}
+use Rattle.at_command.specs.says.Csq as Csq
+use Rattle.at_command.specs.says.Csq.{SignalQualityKeeps}
 use Rattle.at_command.specs.says.Generic as Generic
 use Rattle.at_command.specs.says.Generic.{GenericOkKeeps, SimErrorKeeps, WritePromptKeeps, CloseOkKeeps}
 use Rattle.at_command.specs.says.Gsn as Gsn
@@ -60,44 +69,12 @@ use Rattle.at_command.specs.declared.cpsi.SystemInfo.{SystemInfo}
 use Rattle.at_command.specs.declared.cops.OperatorInfo.{OperatorInfo}
 use Rattle.at_command.specs.declared.cntp.NetworkTime.{NetworkTime}
 use Rattle.at_command.specs.declared.httptofs.DownloadInfo.{DownloadInfo}
+use Rattle.at_command.specs.declared.csq.SignalQuality.{SignalQuality}
 use Rattle.at_command.specs.declared.gsn.Imei.{Imei}
 use Rattle.at_command.specs.declared.cmgr.SmsMessage.{SmsMessage}
-use Rattle.at_command.specs.declared.generic_response.GenericOkAnswer.{GenericOkAnswer}
-use Rattle.at_command.specs.declared.generic_response.GenericOkAnswer.TheVariants as GenericOkA
-use Rattle.at_command.specs.declared.generic_response.SimErrorAnswer.{SimErrorAnswer}
-use Rattle.at_command.specs.declared.generic_response.SimErrorAnswer.TheVariants as SimErrorA
-use Rattle.at_command.specs.declared.generic_response.WritePromptAnswer.{WritePromptAnswer}
-use Rattle.at_command.specs.declared.generic_response.WritePromptAnswer.TheVariants as WritePromptA
-use Rattle.at_command.specs.declared.generic_response.CloseOkAnswer.{CloseOkAnswer}
-use Rattle.at_command.specs.declared.generic_response.CloseOkAnswer.TheVariants as CloseOkA
-use Rattle.at_command.specs.declared.ccid.IccidAnswer.{IccidAnswer}
-use Rattle.at_command.specs.declared.ccid.IccidAnswer.TheVariants as IccidA
-use Rattle.at_command.specs.declared.cpsi.SystemInfoAnswer.{SystemInfoAnswer}
-use Rattle.at_command.specs.declared.cpsi.SystemInfoAnswer.TheVariants as SystemInfoA
-use Rattle.at_command.specs.declared.cops.OperatorInfoAnswer.{OperatorInfoAnswer}
-use Rattle.at_command.specs.declared.cops.OperatorInfoAnswer.TheVariants as OperatorInfoA
-use Rattle.at_command.specs.declared.cntp.NetworkTimeAnswer.{NetworkTimeAnswer}
-use Rattle.at_command.specs.declared.cntp.NetworkTimeAnswer.TheVariants as NetworkTimeA
-use Rattle.at_command.specs.declared.httptofs.DownloadInfoAnswer.{DownloadInfoAnswer}
-use Rattle.at_command.specs.declared.httptofs.DownloadInfoAnswer.TheVariants as DownloadInfoA
-use Rattle.at_command.specs.declared.gsn.ImeiAnswer.{ImeiAnswer}
-use Rattle.at_command.specs.declared.gsn.ImeiAnswer.TheVariants as ImeiA
-use Rattle.at_command.specs.declared.cmgf.SmsMessageFormatAnswer.{SmsMessageFormatAnswer}
-use Rattle.at_command.specs.declared.cmgf.SmsMessageFormatAnswer.TheVariants as SmsMessageFormatA
-use Rattle.at_command.specs.declared.cmgr.SmsMessageAnswer.{SmsMessageAnswer}
-use Rattle.at_command.specs.declared.cmgr.SmsMessageAnswer.TheVariants as SmsMessageA
 use Rattle.at_command.specs.declared.ResponseCode.{ResponseCode}
 use Rattle.at_command.specs.declared.ResponseCode.TheVariants as R
-use Rattle.at_command.specs.declared.ResponseCodeAnswer.{ResponseCodeAnswer}
-use Rattle.at_command.specs.declared.ResponseCodeAnswer.TheVariants as A
 use Rattle.at_command.specs.declared.generic_response.SimError.TheVariants as fault
-use Rattle.at_command.specs.declared.cntp.TimePlace.{TimePlace}
-use Rattle.at_command.specs.declared.cntp.TimePlace.TheVariants as T
-use Rattle.at_command.specs.declared.cops.OperatorName.{OperatorName}
-use Rattle.at_command.specs.declared.cops.OperatorName.TheVariants as N
-use Rattle.at_command.specs.declared.httptofs.Success.{Success}
-use Rattle.at_command.specs.declared.httptofs.Success.TheVariants as S
-use Rattle.at_command.proofs.csq.One.{signal_of, signal_back}
 
 -- the codes, by their numbers
 
@@ -200,17 +177,26 @@ close_of n = record { connection = n }
 abbrev card_of : Card → Iccid
 card_of c = record { country = c.country; issuer = c.issuer; account = c.account }
 
+abbrev level : Option Float → Std.Option Float
+level = option Std.Some Std.None (λ x. x)
+
+abbrev signal_of : Signal → SignalQuality
+signal_of g = record { signal_strength = level g.strength; signal_quality = level g.quality }
+
+signal_back : (q : SignalQuality) → signal_of (Csq.signal_says q) ≡ q
+signal_back q = rw (back_option q.signal_strength, back_option q.signal_quality)
+
 abbrev system_of : System → SystemInfo
 system_of i = record { system_mode = system_mode_of i.system_mode; operation_mode = operation_mode_of i.operation_mode }
 
 system_back : (i : SystemInfo) → system_of (Cpsi.info_says i) ≡ i
 system_back i = rw (system_mode_back i.system_mode, operation_mode_back i.operation_mode)
 
-abbrev name_of : Name → OperatorName
+abbrev name_of : Name → TextAt
 name_of (in_line p) = N.InLine (place p)
 name_of (in_fallback p) = N.InFallback (place p)
 
-name_back : (x : OperatorName) → name_of (Cops.name_says x) ≡ x
+name_back : (x : TextAt) → name_of (Cops.name_says x) ≡ x
 name_back (N.InLine p) = refl
 name_back (N.InFallback p) = refl
 
@@ -220,12 +206,12 @@ operator_of i = record { mode = operator_mode_of i.mode; format = operator_forma
 operator_back : (i : OperatorInfo) → operator_of (Cops.info_says i) ≡ i
 operator_back i = rw (operator_mode_back i.mode, operator_format_back i.format, name_back i.operator_name)
 
-abbrev time_place : Option Span → TimePlace
-time_place = option T.Some T.None place
+abbrev time_place : Option Span → Std.Option Place
+time_place = option Std.Some Std.None place
 
-time_place_back : (x : TimePlace) → time_place (Cntp.time_says x) ≡ x
-time_place_back T.None = refl
-time_place_back (T.Some p) = refl
+time_place_back : (x : Std.Option Place) → time_place (Cntp.time_says x) ≡ x
+time_place_back Std.None = refl
+time_place_back (Std.Some p) = refl
 
 abbrev time_of : NetTime → NetworkTime
 time_of t = record { code = ntp_of t.code; time = time_place t.time }
@@ -246,101 +232,57 @@ abbrev message_of : Span → SmsMessage
 message_of p = record { sender = place p }
 
 -- and so the answers
-ok_answer_back : (r : GenericOkAnswer) → answer GenericOkA.Value GenericOkA.Refused ok_of (Generic.ok_says r) ≡ r
-ok_answer_back (GenericOkA.Value v) = refl
-ok_answer_back (GenericOkA.Refused k) = refl
-
 -- one answer: generic_response::GenericOk::from_line
-pub one_ok : (line : List ℕ) (a b : GenericOkAnswer) → GenericOkKeeps line a → GenericOkKeeps line b → a ≡ b
-one_ok line a b = one_answer Generic.ok_says (answer GenericOkA.Value GenericOkA.Refused ok_of) ok_answer_back a b _
-
-error_answer_back : (r : SimErrorAnswer) → answer SimErrorA.Value SimErrorA.Refused fault_of (Generic.error_says r) ≡ r
-error_answer_back (SimErrorA.Value v) = ap SimErrorA.Value (fault_back v)
-error_answer_back (SimErrorA.Refused k) = refl
+pub one_ok : (line : List ℕ) (a b : Result GenericOk Refusal) → GenericOkKeeps line a → GenericOkKeeps line b → a ≡ b
+one_ok line a b = one_reading Generic.ok_mark ok_of (λ v. refl) a b _
 
 -- one answer: generic_response::SimError::from_line
-pub one_error : (line : List ℕ) (a b : SimErrorAnswer) → SimErrorKeeps line a → SimErrorKeeps line b → a ≡ b
-one_error line a b = one_answer Generic.error_says (answer SimErrorA.Value SimErrorA.Refused fault_of) error_answer_back a b _
-
-prompt_answer_back : (r : WritePromptAnswer) → answer WritePromptA.Value WritePromptA.Refused prompt_of (Generic.prompt_says r) ≡ r
-prompt_answer_back (WritePromptA.Value v) = refl
-prompt_answer_back (WritePromptA.Refused k) = refl
+pub one_error : (line : List ℕ) (a b : Result SimError Refusal) → SimErrorKeeps line a → SimErrorKeeps line b → a ≡ b
+one_error line a b = one_reading Generic.fault_says fault_of fault_back a b _
 
 -- one answer: generic_response::WritePrompt::from_line
-pub one_prompt : (line : List ℕ) (a b : WritePromptAnswer) → WritePromptKeeps line a → WritePromptKeeps line b → a ≡ b
-one_prompt line a b = one_answer Generic.prompt_says (answer WritePromptA.Value WritePromptA.Refused prompt_of) prompt_answer_back a b _
-
-close_answer_back : (r : CloseOkAnswer) → answer CloseOkA.Value CloseOkA.Refused close_of (Generic.close_says r) ≡ r
-close_answer_back (CloseOkA.Value v) = refl
-close_answer_back (CloseOkA.Refused k) = refl
+pub one_prompt : (line : List ℕ) (a b : Result WritePrompt Refusal) → WritePromptKeeps line a → WritePromptKeeps line b → a ≡ b
+one_prompt line a b = one_reading Generic.prompt_mark prompt_of (λ v. refl) a b _
 
 -- one answer: generic_response::CloseOk::from_line
-pub one_close : (line : List ℕ) (a b : CloseOkAnswer) → CloseOkKeeps line a → CloseOkKeeps line b → a ≡ b
-one_close line a b = one_answer Generic.close_says (answer CloseOkA.Value CloseOkA.Refused close_of) close_answer_back a b _
-
-iccid_answer_back : (r : IccidAnswer) → answer IccidA.Value IccidA.Refused card_of (Ccid.says r) ≡ r
-iccid_answer_back (IccidA.Value v) = refl
-iccid_answer_back (IccidA.Refused k) = refl
+pub one_close : (line : List ℕ) (a b : Result CloseOk Refusal) → CloseOkKeeps line a → CloseOkKeeps line b → a ≡ b
+one_close line a b = one_reading Generic.connection_says close_of (λ v. refl) a b _
 
 -- one answer: ccid::Iccid::from_line
-pub one_iccid : (line : List ℕ) (a b : IccidAnswer) → IccidKeeps line a → IccidKeeps line b → a ≡ b
-one_iccid line a b = one_answer Ccid.says (answer IccidA.Value IccidA.Refused card_of) iccid_answer_back a b _
+pub one_iccid : (line : List ℕ) (a b : Result Iccid Refusal) → IccidKeeps line a → IccidKeeps line b → a ≡ b
+one_iccid line a b = one_reading Ccid.card_says card_of (λ v. refl) a b _
 
-system_answer_back : (r : SystemInfoAnswer) → answer SystemInfoA.Value SystemInfoA.Refused system_of (Cpsi.says r) ≡ r
-system_answer_back (SystemInfoA.Value v) = ap SystemInfoA.Value (system_back v)
-system_answer_back (SystemInfoA.Refused k) = refl
+-- one answer: csq::SignalQuality::from_line
+pub one_signal : (line : List ℕ) (a b : Result SignalQuality Refusal) → SignalQualityKeeps line a → SignalQualityKeeps line b → a ≡ b
+one_signal line a b = one_reading Csq.signal_says signal_of signal_back a b _
 
 -- one answer: cpsi::SystemInfo::from_line
-pub one_system : (line : List ℕ) (a b : SystemInfoAnswer) → SystemInfoKeeps line a → SystemInfoKeeps line b → a ≡ b
-one_system line a b = one_answer Cpsi.says (answer SystemInfoA.Value SystemInfoA.Refused system_of) system_answer_back a b _
-
-operator_answer_back : (r : OperatorInfoAnswer) → answer OperatorInfoA.Value OperatorInfoA.Refused operator_of (Cops.says r) ≡ r
-operator_answer_back (OperatorInfoA.Value v) = ap OperatorInfoA.Value (operator_back v)
-operator_answer_back (OperatorInfoA.Refused k) = refl
+pub one_system : (line : List ℕ) (a b : Result SystemInfo Refusal) → SystemInfoKeeps line a → SystemInfoKeeps line b → a ≡ b
+one_system line a b = one_reading Cpsi.info_says system_of system_back a b _
 
 -- one answer: cops::OperatorInfo::from_line
-pub one_operator : (line format_fallback name_fallback : List ℕ) (a b : OperatorInfoAnswer) → OperatorInfoKeeps line format_fallback name_fallback a → OperatorInfoKeeps line format_fallback name_fallback b → a ≡ b
-one_operator line format_fallback name_fallback a b = one_answer Cops.says (answer OperatorInfoA.Value OperatorInfoA.Refused operator_of) operator_answer_back a b _
-
-time_answer_back : (r : NetworkTimeAnswer) → answer NetworkTimeA.Value NetworkTimeA.Refused time_of (Cntp.says r) ≡ r
-time_answer_back (NetworkTimeA.Value v) = ap NetworkTimeA.Value (time_back v)
-time_answer_back (NetworkTimeA.Refused k) = refl
+pub one_operator : (line format_fallback name_fallback : List ℕ) (a b : Result OperatorInfo Refusal) → OperatorInfoKeeps line format_fallback name_fallback a → OperatorInfoKeeps line format_fallback name_fallback b → a ≡ b
+one_operator line format_fallback name_fallback a b = one_reading Cops.info_says operator_of operator_back a b _
 
 -- one answer: cntp::NetworkTime::from_line
-pub one_time : (line : List ℕ) (a b : NetworkTimeAnswer) → NetworkTimeKeeps line a → NetworkTimeKeeps line b → a ≡ b
-one_time line a b = one_answer Cntp.says (answer NetworkTimeA.Value NetworkTimeA.Refused time_of) time_answer_back a b _
-
-download_answer_back : (r : DownloadInfoAnswer) → answer DownloadInfoA.Value DownloadInfoA.Refused download_of (Httptofs.says r) ≡ r
-download_answer_back (DownloadInfoA.Value v) = ap DownloadInfoA.Value (download_back v)
-download_answer_back (DownloadInfoA.Refused k) = refl
+pub one_time : (line : List ℕ) (a b : Result NetworkTime Refusal) → NetworkTimeKeeps line a → NetworkTimeKeeps line b → a ≡ b
+one_time line a b = one_reading Cntp.info_says time_of time_back a b _
 
 -- one answer: httptofs::DownloadInfo::from_line
-pub one_download : (line : List ℕ) (a b : DownloadInfoAnswer) → DownloadInfoKeeps line a → DownloadInfoKeeps line b → a ≡ b
-one_download line a b = one_answer Httptofs.says (answer DownloadInfoA.Value DownloadInfoA.Refused download_of) download_answer_back a b _
-
-imei_answer_back : (r : ImeiAnswer) → answer ImeiA.Value ImeiA.Refused imei_of (Gsn.says r) ≡ r
-imei_answer_back (ImeiA.Value v) = refl
-imei_answer_back (ImeiA.Refused k) = refl
+pub one_download : (line : List ℕ) (a b : Result DownloadInfo Refusal) → DownloadInfoKeeps line a → DownloadInfoKeeps line b → a ≡ b
+one_download line a b = one_reading Httptofs.info_says download_of download_back a b _
 
 -- one answer: gsn::Imei::from_line
-pub one_imei : (line : List ℕ) (a b : ImeiAnswer) → ImeiKeeps line a → ImeiKeeps line b → a ≡ b
-one_imei line a b = one_answer Gsn.says (answer ImeiA.Value ImeiA.Refused imei_of) imei_answer_back a b _
-
-format_answer_back : (r : SmsMessageFormatAnswer) → answer SmsMessageFormatA.Value SmsMessageFormatA.Refused format_of (Cmgf.says r) ≡ r
-format_answer_back (SmsMessageFormatA.Value v) = ap SmsMessageFormatA.Value (format_back v)
-format_answer_back (SmsMessageFormatA.Refused k) = refl
+pub one_imei : (line : List ℕ) (a b : Result Imei Refusal) → ImeiKeeps line a → ImeiKeeps line b → a ≡ b
+one_imei line a b = one_reading Gsn.imei_says imei_of (λ v. refl) a b _
 
 -- one answer: cmgf::SmsMessageFormat::from_line
-pub one_format : (line : List ℕ) (a b : SmsMessageFormatAnswer) → SmsMessageFormatKeeps line a → SmsMessageFormatKeeps line b → a ≡ b
-one_format line a b = one_answer Cmgf.says (answer SmsMessageFormatA.Value SmsMessageFormatA.Refused format_of) format_answer_back a b _
-
-message_answer_back : (r : SmsMessageAnswer) → answer SmsMessageA.Value SmsMessageA.Refused message_of (Cmgr.says r) ≡ r
-message_answer_back (SmsMessageA.Value v) = refl
-message_answer_back (SmsMessageA.Refused k) = refl
+pub one_format : (line : List ℕ) (a b : Result SmsMessageFormat Refusal) → SmsMessageFormatKeeps line a → SmsMessageFormatKeeps line b → a ≡ b
+one_format line a b = one_reading Cmgf.format_number format_of format_back a b _
 
 -- one answer: cmgr::SmsMessage::from_line
-pub one_message : (line : List ℕ) (a b : SmsMessageAnswer) → SmsMessageKeeps line a → SmsMessageKeeps line b → a ≡ b
-one_message line a b = one_answer Cmgr.says (answer SmsMessageA.Value SmsMessageA.Refused message_of) message_answer_back a b _
+pub one_message : (line : List ℕ) (a b : Result SmsMessage Refusal) → SmsMessageKeeps line a → SmsMessageKeeps line b → a ≡ b
+one_message line a b = one_reading Cmgr.message_says message_of (λ v. refl) a b _
 
 abbrev pub code_of : Response → ResponseCode
 code_of (ok x) = R.Ok (ok_of x)
@@ -372,26 +314,23 @@ code_back (R.Imei x) = refl
 code_back (R.SmsMessageFormat x) = ap R.SmsMessageFormat (format_back x)
 code_back (R.SmsMessage x) = refl
 
-response_back : (r : ResponseCodeAnswer) → answer A.Value A.Refused code_of (Response.says r) ≡ r
-response_back (A.Value c) = ap A.Value (code_back c)
-response_back (A.Refused k) = refl
-
 -- one answer: ResponseCode::from_line
-pub one_response : (line : List ℕ) (a b : ResponseCodeAnswer) → ResponseCodeKeeps line a → ResponseCodeKeeps line b → a ≡ b
-one_response line a b = one_answer Response.says (answer A.Value A.Refused code_of) response_back a b _
+pub one_response : (line : List ℕ) (a b : Result ResponseCode Refusal) → ResponseCodeKeeps line a → ResponseCodeKeeps line b → a ≡ b
+one_response line a b = one_reading Response.code_says code_of code_back a b _
 
 -- one answer: straight::read_at
-pub one_response_at : (place : ℕ) (line : List ℕ) (a b : ResponseCodeAnswer) → ResponseAtKeeps place line a → ResponseAtKeeps place line b → a ≡ b
-one_response_at place line a b = one_answer Response.says (answer A.Value A.Refused code_of) response_back a b _
+pub one_response_at : (place : ℕ) (line : List ℕ) (a b : Result ResponseCode Refusal) → ResponseAtKeeps place line a → ResponseAtKeeps place line b → a ≡ b
+one_response_at place line a b = one_reading Response.code_says code_of code_back a b _
 
 -- the status of a download
-abbrev success_of : Option ℕ → Success
-success_of = option S.Err S.Ok status_of
+abbrev success_of : Option ℕ → Result Unit StatusCode
+success_of none = Ok tt
+success_of (some n) = Err (status_of n)
 
-success_back : (r : Success) → success_of (Httptofs.success_says r) ≡ r
-success_back S.Ok = refl
-success_back (S.Err c) = ap S.Err (status_back c)
+success_back : (r : Result Unit StatusCode) → success_of (Httptofs.success_says r) ≡ r
+success_back (Ok v) = refl
+success_back (Err c) = ap Err (status_back c)
 
 -- one answer: httptofs::StatusCode::success
-pub one_success : (code : StatusCode) (a b : Success) → SuccessKeeps code a → SuccessKeeps code b → a ≡ b
+pub one_success : (code : StatusCode) (a b : Result Unit StatusCode) → SuccessKeeps code a → SuccessKeeps code b → a ≡ b
 one_success code a b = one_answer Httptofs.success_says success_of success_back a b _

@@ -3,15 +3,14 @@
 use mathlib.Core.Path.{◌≡◌, refl, ap, sym, ◌∙◌}
 use mathlib.Core.List.{List, [], ◌∷◌}
 use Prim.Native.Nat.{ℕ}
-use Rattle.text.proofs.One.{one_answer}
-use Rattle.text.specs.Reading.{Reading, read, refused}
+use Rattle.std.specs.Prelude.{Result}
+use Rattle.text.proofs.One.{one_answer, one_reading}
+use Rattle.text.specs.declared.refusal.Refusal.{Refusal}
 use Rattle.at_command.specs.Kind.{Kind, generic_ok, sim_error, write_prompt, close_ok, iccid, signal_quality, system_info, operator_info, network_time, download_info, imei, sms_message_format, sms_message}
 use Rattle.at_command.specs.Request.{Asked, answers_to}
-use Rattle.at_command.specs.says.Request.{encoded_says, asked, kind_says, awaits_says, awaited_by, KindAtKeeps, EncodeKeeps, AwaitsKeeps}
+use Rattle.at_command.specs.says.Request.{asked, kind_says, awaits_says, awaited_by, KindAtKeeps, EncodeKeeps, AwaitsKeeps}
 use Rattle.at_command.specs.says.Response.{KindKeeps}
 use Rattle.at_command.specs.declared.ResponseCode.{ResponseCode}
-use Rattle.at_command.specs.declared.request.Encoded.{Encoded}
-use Rattle.at_command.specs.declared.request.Encoded.TheVariants as E
 use Rattle.at_command.specs.declared.request.Request.{Request}
 use Rattle.at_command.specs.declared.request.Request.TheVariants as R
 use Rattle.at_command.specs.declared.request.ResponseKind.{ResponseKind}
@@ -19,21 +18,13 @@ use Rattle.at_command.specs.declared.request.ResponseKind.TheVariants as K
 use Rattle.at_command.specs.declared.request.Awaits.{Awaits}
 use Rattle.at_command.specs.declared.request.Awaits.TheVariants.{One, Two}
 
-abbrev pub encoded : Reading ℕ → Encoded
-encoded (read n) = E.Size n
-encoded (refused k) = E.Refused k
-
-pub encoded_back : (r : Encoded) → encoded (encoded_says r) ≡ r
-encoded_back (E.Size n) = refl
-encoded_back (E.Refused k) = refl
-
 -- the size or the refusal, and the output buffer
 -- one answer: request::Request::encode, ccid::ShowIccid::encode, cmgf::GetSmsMessageFormat::encode, cmgf::SetSmsMessageFormat::encode, cmgr::ReadSms::encode
 -- one answer: cntp::Execute::encode, cntp::SynchronizeNetworkTime::encode, cops::GetOperatorInfo::encode, cops::SetAutomaticOperator::encode
 -- one answer: cops::SetManualOperator::encode, cpsi::GetSystemInfo::encode, csq::GetSignalQuality::encode, gsn::GetImei::encode
 -- one answer: httptofs::DownloadToFileSystem::encode
-pub one_encoded : (request : Asked) (before : List ℕ) (a b : Encoded) (after after' : List ℕ) → EncodeKeeps request before a after → EncodeKeeps request before b after' → (a ≡ b) × (after ≡ after')
-one_encoded request before a b after after' f g = (one_answer encoded_says encoded encoded_back a b _ f.says g.says, f.holds ∙ sym g.holds)
+pub one_encoded : (request : Asked) (before : List ℕ) (a b : Result ℕ Refusal) (after after' : List ℕ) → EncodeKeeps request before a after → EncodeKeeps request before b after' → (a ≡ b) × (after ≡ after')
+one_encoded request before a b after after' f g = (one_reading (λ n. n) (λ n. n) (λ n. refl) a b _ f.says g.says, f.holds ∙ sym g.holds)
 
 abbrev pub kind : Kind → ResponseKind
 kind generic_ok = K.GenericOk

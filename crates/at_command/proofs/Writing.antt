@@ -11,6 +11,9 @@ use borrow.Author.Tests.{lt-ltb, le-ltb, ltb-false, lt-leb, le-leb, ne_eqb, not-
 use Rattle.text.specs.Bytes.{all_within, all_digits}
 use Rattle.text.specs.Reading.{Reading, read, refused, mapped}
 use Rattle.text.proofs.Ascii.{digits_printable}
+use Rattle.text.specs.says.Refusal.{number_of}
+use Rattle.text.specs.declared.refusal.Refusal.{Refusal}
+use Rattle.text.proofs.Refusals.{some_refusal}
 use Rattle.text.proofs.Tests.{neither}
 use Rattle.at_command.specs.WriterSteps.{Lays}
 use Rattle.at_command.specs.Request.{Asked, set_manual_operator, command_of, operator_number, Text, up_to, operator_up_to, texts_of, any_long, any_bad_operator, any_unfit, refusal_of, fitting, LeavesWritten, Writes}
@@ -78,7 +81,7 @@ module _ (ts : List Text) where
       go false false true p q r e = absurd (omega arith)
       go false false false p q r e = record { short = p; numbered = q; fit = r }
 
--- `write::refusal`
+-- `write::check_texts`
 module _ (t u : List ℕ) (n m : ℕ) where
   abbrev first : Text
   first = up_to n t
@@ -111,9 +114,9 @@ module _ (t u : List ℕ) (n m : ℕ) where
         both_fit w = says_0 two both_short refl (fit first second x is false z (fit (up_to m u) [] y also false w refl))
 
   -- where it is 0, both are short
-  module _ (k : ℕ) (is : k ≡ refusal_of two) (h : k ≤ 0) where
+  module _ (is : 0 ≡ refusal_of two) where
     both_limited : (length t ≤ n) × (any_long second ≡ false)
-    both_limited = limited first second (no_fault two (omega arith)).short
+    both_limited = limited first second (no_fault two (sym is)).short
 
     pub first_limited : length t ≤ n
     first_limited = both_limited.0
@@ -121,7 +124,7 @@ module _ (t u : List ℕ) (n m : ℕ) where
     pub second_limited : length u ≤ m
     second_limited = (limited (up_to m u) [] both_limited.1).0
 
--- `cops::number_refusal`
+-- `cops::check_number`
 module _ (p : List ℕ) where
   abbrev number : List Text
   number = texts_of (set_manual_operator p)
@@ -147,17 +150,17 @@ module _ (p : List ℕ) where
       number_good z = let d = not-false x z in says_0 number not_long (rw (number_is, d)) (rw (digits_printable p (sym is ∙ d)))
 
 -- a request's writer: the texts come first
-module _ (a : Asked) (b : List ℕ) (k : ℕ) (is : k ≡ refusal_of (texts_of a)) where
-  pub refuses : 0 < k → Writes a b (refused k) b
+module _ (a : Asked) (b : List ℕ) where
+  pub refuses : (k : Refusal) → number_of k ≡ refusal_of (texts_of a) → Writes a b (refused (number_of k)) b
   unfolding mapped
-  refuses h = rw (sym is, ne_eqb k 0 (λ e. omega arith)) (record { says = refl; holds = refl })
+  refuses k is = rw (sym is, ne_eqb (number_of k) 0 (some_refusal k)) (record { says = refl; holds = refl })
 
-  past_texts : k ≤ 0 → (w : Reading ℕ) (x : List ℕ) → LeavesWritten (fitting (command_of a) (length b)) b w x → Writes a b w x
-  past_texts h w x p = let z : refusal_of (texts_of a) ≡ 0 = omega arith in rw z p
+  module _ (is : 0 ≡ refusal_of (texts_of a)) where
+    past_texts : (w : Reading ℕ) (x : List ℕ) → LeavesWritten (fitting (command_of a) (length b)) b w x → Writes a b w x
+    past_texts w x p = rw (sym is) p
 
-  module _ (h : k ≤ 0) where
     pub refuses_7 : (n : ℕ) → n ≡ length (command_of a) → length b < n → Writes a b (refused 7) b
-    refuses_7 n e r = past_texts h (refused 7) b (no_room (command_of a) b n e r)
+    refuses_7 n e r = past_texts (refused 7) b (no_room (command_of a) b n e r)
 
     pub writes : (x : List ℕ) (e : ℕ) → Lays (command_of a) 0 b e x → Writes a b (read e) x
-    writes x e d = past_texts h (read e) x (laid (command_of a) b x e d)
+    writes x e d = past_texts (read e) x (laid (command_of a) b x e d)

@@ -1,13 +1,14 @@
 // AT+CCID: the number of the SIM card.
+#![tactic(auto, unfolding(text::specs::Line::checked, text::specs::Reading::only, text::specs::Reading::need_else, text::specs::Reading::sized, crate::specs::Ccid::card_text, crate::specs::Ccid::iccid_text))]
+
 ghost use Rattle.std.specs.Prelude.{◌≡◌};
 ghost use Rattle.at_command.specs.Ccid.{card_text, iccid_text};
 ghost use Rattle.at_command.specs.Request.{show_iccid};
 ghost use Rattle.at_command.specs.says.Ccid.{says, IccidKeeps};
 ghost use Rattle.at_command.specs.says.Request.{EncodeKeeps};
 
-use crate::request::Encoded;
 use crate::write;
-use text::number::{ParsedU8, ParsedU64};
+use text::refusal::Refusal;
 use text::{bytes, line, number, part};
 
 #[derive(Clone, Copy)]
@@ -17,35 +18,20 @@ pub struct Iccid {
     pub account: u64,
 }
 
-#[derive(Clone, Copy)]
-pub enum IccidAnswer {
-    Value(Iccid),
-    Refused(u8),
-}
-
 // Reads a number whose padding is gone.
-fn card(t: &[u8]) -> IccidAnswer
+fn card(t: &[u8]) -> Result<Iccid, Refusal>
     ensures { says result ≡ card_text t.now }
 {
-    if t.len() < 19 {
-        return IccidAnswer::Refused(3);
-    }
-    if 20 < t.len() {
-        return IccidAnswer::Refused(3);
+    if t.len() < 19 || 20 < t.len() {
+        return Err(Refusal::NotThisLine);
     }
     if !bytes::starts_with(t, b"89") {
-        return IccidAnswer::Refused(3);
+        return Err(Refusal::NotThisLine);
     }
-    let ParsedU8::Is(country) = number::parse_u8(part::part(t, 2, 4)) else {
-        return IccidAnswer::Refused(3);
-    };
-    let ParsedU8::Is(issuer) = number::parse_u8(part::part(t, 4, 6)) else {
-        return IccidAnswer::Refused(3);
-    };
-    let ParsedU64::Is(account) = number::parse_u64(part::skip(t, 6)) else {
-        return IccidAnswer::Refused(3);
-    };
-    IccidAnswer::Value(Iccid {
+    let country = number::parse_u8(part::part(t, 2, 4)).ok_or(Refusal::NotThisLine)?;
+    let issuer = number::parse_u8(part::part(t, 4, 6)).ok_or(Refusal::NotThisLine)?;
+    let account = number::parse_u64(part::skip(t, 6)).ok_or(Refusal::NotThisLine)?;
+    Ok(Iccid {
         country,
         issuer,
         account,
@@ -53,19 +39,16 @@ fn card(t: &[u8]) -> IccidAnswer
 }
 
 impl Iccid {
-    pub(crate) fn from_checked(line: &[u8]) -> IccidAnswer
+    pub(crate) fn from_checked(line: &[u8]) -> Result<Iccid, Refusal>
         ensures { says result ≡ iccid_text line.now }
     {
         card(part::trim_end(line, b'f', b'F'))
     }
 
-    pub fn from_line(line: &[u8]) -> IccidAnswer
+    pub fn from_line(line: &[u8]) -> Result<Iccid, Refusal>
         ensures { IccidKeeps line.now result }
     {
-        let k = line::check_line(line);
-        if k != 0 {
-            return IccidAnswer::Refused(k);
-        }
+        line::check_line(line)?;
         Iccid::from_checked(line)
     }
 }
@@ -75,7 +58,7 @@ impl Iccid {
 pub struct ShowIccid;
 
 impl ShowIccid {
-    pub fn encode(self, out: &mut [u8]) -> Encoded
+    pub fn encode(self, out: &mut [u8]) -> Result<usize, Refusal>
         ensures { EncodeKeeps show_iccid out.old result out.new }
     {
         write::plain(b"AT+CCID\r", out)

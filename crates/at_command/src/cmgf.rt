@@ -1,63 +1,49 @@
 // AT+CMGF: the format of SMS messages.
+#![tactic(auto, unfolding(text::specs::Line::checked, text::specs::Reading::only, text::specs::Reading::need_else, crate::specs::Cmgf::cmgf_text))]
+
 ghost use Rattle.std.specs.Prelude.{◌≡◌};
 ghost use Rattle.text.specs.Code.{code_in};
+ghost use Rattle.text.specs.says.Refusal.{option_mapped};
 ghost use Rattle.at_command.specs.Cmgf.{message_formats, cmgf_text};
 ghost use Rattle.at_command.specs.Request.{get_sms_message_format, set_sms_message_format};
-ghost use Rattle.at_command.specs.says.Cmgf.{says, code_says, format_number, SmsMessageFormatKeeps};
+ghost use Rattle.at_command.specs.says.Cmgf.{says, format_number, SmsMessageFormatKeeps};
 ghost use Rattle.at_command.specs.says.Request.{EncodeKeeps};
 
-use crate::request::Encoded;
 use crate::write;
+use text::refusal::Refusal;
 use text::{bytes, code, line, part};
 
-#[derive(Clone, Copy)]
+#[derive(Clone, Copy, Debug, PartialEq, Eq)]
 pub enum SmsMessageFormat {
-    Pdu,
-    Text,
+    Pdu = 0,
+    Text = 1,
 }
 
-#[derive(Clone, Copy)]
-pub enum SmsMessageFormatAnswer {
-    Value(SmsMessageFormat),
-    Refused(u8),
-}
+const FORMATS: [(&[u8], SmsMessageFormat); 2] = [
+    (b"0", SmsMessageFormat::Pdu),
+    (b"1", SmsMessageFormat::Text),
+];
 
-#[derive(Clone, Copy)]
-enum FormatCode {
-    Is(SmsMessageFormat),
-    Not,
-}
-
-fn format_of(t: &[u8]) -> FormatCode
-    ensures { code_says result ≡ code_in message_formats t.now }
+fn format_of(t: &[u8]) -> Option<SmsMessageFormat>
+    ensures { option_mapped format_number result ≡ code_in message_formats t.now }
 {
-    match code::place_in(t, b"0,1") {
-        0 => FormatCode::Is(SmsMessageFormat::Pdu),
-        1 => FormatCode::Is(SmsMessageFormat::Text),
-        _ => FormatCode::Not,
-    }
+    code::coded(t, &FORMATS)
 }
 
 impl SmsMessageFormat {
-    pub(crate) fn from_checked(line: &[u8]) -> SmsMessageFormatAnswer
+    pub(crate) fn from_checked(line: &[u8]) -> Result<SmsMessageFormat, Refusal>
         ensures { says result ≡ cmgf_text line.now }
     {
         if !bytes::starts_with(line, b"+CMGF: ") {
-            return SmsMessageFormatAnswer::Refused(3);
+            return Err(Refusal::NotThisLine);
         }
-        let FormatCode::Is(format) = format_of(part::skip(line, 7)) else {
-            return SmsMessageFormatAnswer::Refused(3);
-        };
-        SmsMessageFormatAnswer::Value(format)
+        format_of(part::skip(line, 7)).ok_or(Refusal::NotThisLine)
     }
 
-    pub fn from_line(line: &[u8]) -> SmsMessageFormatAnswer
+    pub fn from_line(line: &[u8]) -> Result<SmsMessageFormat, Refusal>
         ensures { SmsMessageFormatKeeps line.now result }
     {
-        let k = line::check_line(line);
-        if k != 0 {
-            return SmsMessageFormatAnswer::Refused(k);
-        }
+        line::check_line(line)?;
         SmsMessageFormat::from_checked(line)
     }
 }
@@ -67,7 +53,7 @@ impl SmsMessageFormat {
 pub struct GetSmsMessageFormat;
 
 impl GetSmsMessageFormat {
-    pub fn encode(self, out: &mut [u8]) -> Encoded
+    pub fn encode(self, out: &mut [u8]) -> Result<usize, Refusal>
         ensures { EncodeKeeps get_sms_message_format out.old result out.new }
     {
         write::plain(b"AT+CMGF?\r", out)
@@ -79,7 +65,7 @@ impl GetSmsMessageFormat {
 pub struct SetSmsMessageFormat(pub SmsMessageFormat);
 
 impl SetSmsMessageFormat {
-    pub fn encode(self, out: &mut [u8]) -> Encoded
+    pub fn encode(self, out: &mut [u8]) -> Result<usize, Refusal>
         ensures { EncodeKeeps (set_sms_message_format (format_number self.0)) out.old result out.new }
     {
         let format = self.0;

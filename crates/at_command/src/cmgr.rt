@@ -1,17 +1,19 @@
 // AT+CMGR: an SMS message.
+#![tactic(auto, unfolding(text::specs::Line::checked, text::specs::Reading::only, text::specs::Reading::fitting, crate::specs::Cmgr::cmgr_fields, crate::specs::Cmgr::cmgr_text))]
+
 ghost use Rattle.std.specs.Prelude.{◌≡◌, drop};
 ghost use Rattle.text.specs.Field.{fields};
-ghost use Rattle.text.specs.says.Handed.{at_says, TextKeeps};
+ghost use Rattle.text.specs.says.Handed.{TextKeeps};
 ghost use Rattle.at_command.specs.Cmgr.{cmgr_fields, cmgr_text};
 ghost use Rattle.at_command.specs.Handed.{sender_handed};
 ghost use Rattle.at_command.specs.Request.{read_sms};
 ghost use Rattle.at_command.specs.says.Cmgr.{says, SmsMessageKeeps};
 ghost use Rattle.at_command.specs.says.Request.{EncodeKeeps};
 
-use crate::request::Encoded;
 use crate::{unquoted, write};
-use text::handed::{LineText, TextAt};
+use text::handed::TextAt;
 use text::part::Place;
+use text::refusal::Refusal;
 use text::{bytes, field, handed, line, part, reader};
 
 // The sender's place in the line. The message's text is empty, as in the Rust.
@@ -20,68 +22,45 @@ pub struct SmsMessage {
     pub sender: Place,
 }
 
-#[derive(Clone, Copy)]
-pub enum SmsMessageAnswer {
-    Value(SmsMessage),
-    Refused(u8),
-}
-
 // Reads what follows the prefix of seven bytes.
-fn sms_message(line: &[u8]) -> SmsMessageAnswer
+fn sms_message(line: &[u8]) -> Result<SmsMessage, Refusal>
     ensures { says result ≡ cmgr_fields (fields 44 (drop 7 line.now)) }
 {
     let rest = part::skip(line, 7);
     if field::field_count(rest, b',') < 3 {
-        return SmsMessageAnswer::Refused(3);
+        return Err(Refusal::NotThisLine);
     }
     if 20 < part::trim(reader::nth_field(rest, 1), b'"').len() {
-        return SmsMessageAnswer::Refused(4);
+        return Err(Refusal::TextTooLong);
     }
-    SmsMessageAnswer::Value(SmsMessage {
+    Ok(SmsMessage {
         sender: unquoted::unquoted_field(line, 1),
     })
 }
 
 impl SmsMessage {
-    pub(crate) fn from_checked(line: &[u8]) -> SmsMessageAnswer
+    pub(crate) fn from_checked(line: &[u8]) -> Result<SmsMessage, Refusal>
         ensures { says result ≡ cmgr_text line.now }
     {
         if !bytes::starts_with(line, b"+CMGR: ") {
-            return SmsMessageAnswer::Refused(3);
+            return Err(Refusal::NotThisLine);
         }
         sms_message(line)
     }
 
-    pub fn from_line(line: &[u8]) -> SmsMessageAnswer
+    pub fn from_line(line: &[u8]) -> Result<SmsMessage, Refusal>
         ensures { SmsMessageKeeps line.now result }
     {
-        let k = line::check_line(line);
-        if k != 0 {
-            return SmsMessageAnswer::Refused(k);
-        }
+        line::check_line(line)?;
         SmsMessage::from_checked(line)
     }
 
-    // Where the sender stands in the line.
-    fn sender_at(line: &[u8]) -> TextAt
-        ensures { at_says result ≡ sender_handed line.now }
-    {
-        match SmsMessage::from_line(line) {
-            SmsMessageAnswer::Value(v) => handed::in_line(v.sender),
-            SmsMessageAnswer::Refused(k) => handed::nowhere(k),
-        }
-    }
-
-    // The sender, empty where the line is refused, with the number of the refusal.
-    pub fn sender_text<'a>(line: &'a [u8]) -> LineText<'a>
+    // The sender.
+    pub fn sender_text<'a>(line: &'a [u8]) -> Result<&'a [u8], Refusal>
         ensures { TextKeeps line.entry line.entry (sender_handed line.now) result }
     {
-        let at = SmsMessage::sender_at(line);
-        let text = handed::cut(at, line, line);
-        LineText {
-            text,
-            refusal: at.refusal,
-        }
+        let message = SmsMessage::from_line(line)?;
+        Ok(handed::cut(TextAt::InLine(message.sender), line, line))
     }
 }
 
@@ -92,15 +71,15 @@ pub struct ReadSms {
 }
 
 impl ReadSms {
-    pub fn encode(self, out: &mut [u8]) -> Encoded
+    pub fn encode(self, out: &mut [u8]) -> Result<usize, Refusal>
         ensures { EncodeKeeps (read_sms self.index) out.old result out.new }
     {
         let index = self.index as u16;
         if out.len() < 9 + write::decimal_size(index) {
-            return Encoded::Refused(7);
+            return Err(Refusal::NoRoom);
         }
         let at = write::lay(b"AT+CMGR=", 0, out);
         let at = write::lay_decimal(index, at, out);
-        Encoded::Size(write::lay_byte(b'\r', at, out))
+        Ok(write::lay_byte(b'\r', at, out))
     }
 }

@@ -1,150 +1,104 @@
 // AT+CNTP: the time of the network.
+#![tactic(auto, unfolding(text::specs::Line::checked, text::specs::Reading::only, text::specs::Reading::need_else, text::specs::Reading::either, text::specs::Reading::fitting, crate::specs::Cntp::cntp_rest, crate::specs::Cntp::cntp_text))]
+
 ghost use Rattle.std.specs.Prelude.{◌≡◌, ◌+◌, ◌≤◌, drop, length};
 ghost use Rattle.text.specs.Code.{code_in};
-ghost use Rattle.text.specs.says.Handed.{at_says, TextKeeps};
+ghost use Rattle.text.specs.says.Handed.{TextKeeps};
+ghost use Rattle.text.specs.says.Refusal.{option_mapped};
 ghost use Rattle.at_command.specs.Cntp.{ntp_codes, cntp_rest, cntp_text};
-ghost use Rattle.at_command.specs.Handed.{time_in, time_handed};
+ghost use Rattle.at_command.specs.Handed.{time_handed};
 ghost use Rattle.at_command.specs.WriterSteps.{Lays};
 ghost use Rattle.at_command.specs.Piece.{quoted, decimal};
 ghost use Rattle.at_command.specs.Request.{command_of, synchronize_network_time, execute};
-ghost use Rattle.at_command.specs.says.Cntp.{says, code_says, time_says, NetworkTimeKeeps};
+ghost use Rattle.at_command.specs.says.Cntp.{says, code_number, NetworkTimeKeeps};
 ghost use Rattle.at_command.specs.says.Request.{EncodeKeeps};
 
-use crate::request::Encoded;
 use crate::write;
-use text::handed::{LineText, TextAt};
+use text::handed::TextAt;
 use text::part::Place;
+use text::refusal::Refusal;
 use text::{bytes, code, handed, line, part};
 
-#[derive(Clone, Copy)]
+#[derive(Clone, Copy, Debug, PartialEq, Eq)]
 pub enum SyncNtpStatusCode {
-    Success,
-    NetworkError,
-    DnsResolutionError,
-    ConnectionError,
-    ServiceResponseError,
-    ServiceResponseTimeout,
-}
-
-// Where the time stands in the line, if it is there.
-#[derive(Clone, Copy)]
-pub enum TimePlace {
-    None,
-    Some(Place),
+    Success = 1,
+    NetworkError = 61,
+    DnsResolutionError = 62,
+    ConnectionError = 63,
+    ServiceResponseError = 64,
+    ServiceResponseTimeout = 65,
 }
 
 #[derive(Clone, Copy)]
 pub struct NetworkTime {
     pub code: SyncNtpStatusCode,
-    pub time: TimePlace,
+    // Where the time stands in the line, if it is there.
+    pub time: Option<Place>,
 }
 
-#[derive(Clone, Copy)]
-pub enum NetworkTimeAnswer {
-    Value(NetworkTime),
-    Refused(u8),
-}
+const CODES: [(&[u8], SyncNtpStatusCode); 6] = [
+    (b"1", SyncNtpStatusCode::Success),
+    (b"61", SyncNtpStatusCode::NetworkError),
+    (b"62", SyncNtpStatusCode::DnsResolutionError),
+    (b"63", SyncNtpStatusCode::ConnectionError),
+    (b"64", SyncNtpStatusCode::ServiceResponseError),
+    (b"65", SyncNtpStatusCode::ServiceResponseTimeout),
+];
 
-#[derive(Clone, Copy)]
-enum NtpCode {
-    Is(SyncNtpStatusCode),
-    Not,
-}
-
-fn code_of(t: &[u8]) -> NtpCode
-    ensures { code_says result ≡ code_in ntp_codes t.now }
+fn code_of(t: &[u8]) -> Option<SyncNtpStatusCode>
+    ensures { option_mapped code_number result ≡ code_in ntp_codes t.now }
 {
-    match code::place_in(t, b"1,61,62,63,64,65") {
-        0 => NtpCode::Is(SyncNtpStatusCode::Success),
-        1 => NtpCode::Is(SyncNtpStatusCode::NetworkError),
-        2 => NtpCode::Is(SyncNtpStatusCode::DnsResolutionError),
-        3 => NtpCode::Is(SyncNtpStatusCode::ConnectionError),
-        4 => NtpCode::Is(SyncNtpStatusCode::ServiceResponseError),
-        5 => NtpCode::Is(SyncNtpStatusCode::ServiceResponseTimeout),
-        _ => NtpCode::Not,
-    }
+    code::coded(t, &CODES)
 }
 
 // Reads what follows the prefix of seven bytes; the time's place is counted from the line's start.
-fn network_time(line: &[u8]) -> NetworkTimeAnswer
+fn network_time(line: &[u8]) -> Result<NetworkTime, Refusal>
     ensures { says result ≡ cntp_rest (drop 7 line.now) }
 {
     let rest = part::skip(line, 7);
-    let NtpCode::Is(code) = code_of(part::before_byte(rest, b',')) else {
-        return NetworkTimeAnswer::Refused(3);
-    };
+    let code = code_of(part::before_byte(rest, b',')).ok_or(Refusal::NotThisLine)?;
     if !bytes::has_byte(rest, b',') {
-        return NetworkTimeAnswer::Value(NetworkTime {
-            code,
-            time: TimePlace::None,
-        });
+        return Ok(NetworkTime { code, time: None });
     }
     if 32 < part::after_byte(rest, b',').len() {
-        return NetworkTimeAnswer::Refused(4);
+        return Err(Refusal::TextTooLong);
     }
     let start = bytes::find(line, 7, b',') + 1;
-    NetworkTimeAnswer::Value(NetworkTime {
+    Ok(NetworkTime {
         code,
-        time: TimePlace::Some(Place {
+        time: Some(Place {
             start,
             end: line.len(),
         }),
     })
 }
 
-// Where a time stands that was read.
-fn place_of(time: TimePlace) -> TextAt
-    ensures { at_says result ≡ time_in (time_says time) }
-{
-    match time {
-        TimePlace::None => handed::nowhere(0),
-        TimePlace::Some(place) => handed::in_line(place),
-    }
-}
+// The place of no text.
+const NOWHERE: Place = Place { start: 0, end: 0 };
 
 impl NetworkTime {
-    pub(crate) fn from_checked(line: &[u8]) -> NetworkTimeAnswer
+    pub(crate) fn from_checked(line: &[u8]) -> Result<NetworkTime, Refusal>
         ensures { says result ≡ cntp_text line.now }
     {
         if !bytes::starts_with(line, b"+CNTP: ") {
-            return NetworkTimeAnswer::Refused(3);
+            return Err(Refusal::NotThisLine);
         }
         network_time(line)
     }
 
-    pub fn from_line(line: &[u8]) -> NetworkTimeAnswer
+    pub fn from_line(line: &[u8]) -> Result<NetworkTime, Refusal>
         ensures { NetworkTimeKeeps line.now result }
     {
-        let k = line::check_line(line);
-        if k != 0 {
-            return NetworkTimeAnswer::Refused(k);
-        }
+        line::check_line(line)?;
         NetworkTime::from_checked(line)
     }
 
-    // Where the time stands in the line.
-    fn time_at(line: &[u8]) -> TextAt
-        ensures { at_says result ≡ time_handed line.now }
-    {
-        match NetworkTime::from_line(line) {
-            NetworkTimeAnswer::Value(v) => {
-                let time = v.time;
-                place_of(time)
-            }
-            NetworkTimeAnswer::Refused(k) => handed::nowhere(k),
-        }
-    }
-
-    // The time, empty where the line is refused or has none, with the number of the refusal.
-    pub fn time_text<'a>(line: &'a [u8]) -> LineText<'a>
+    // The time, empty where the line has none.
+    pub fn time_text<'a>(line: &'a [u8]) -> Result<&'a [u8], Refusal>
         ensures { TextKeeps line.entry line.entry (time_handed line.now) result }
     {
-        let at = NetworkTime::time_at(line);
-        let text = handed::cut(at, line, line);
-        LineText {
-            text,
-            refusal: at.refusal,
-        }
+        let time = NetworkTime::from_line(line)?.time.unwrap_or(NOWHERE);
+        Ok(handed::cut(TextAt::InLine(time), line, line))
     }
 }
 
@@ -156,20 +110,17 @@ pub struct SynchronizeNetworkTime {
 }
 
 impl SynchronizeNetworkTime {
-    pub fn encode(self, ntp_server: &[u8], out: &mut [u8]) -> Encoded
+    pub fn encode(self, ntp_server: &[u8], out: &mut [u8]) -> Result<usize, Refusal>
         ensures { EncodeKeeps (synchronize_network_time ntp_server.now self.timezone self.cid) out.old result out.new }
     {
-        let refusal = write::refusal(ntp_server, 64, b"", 0);
-        if 0 < refusal {
-            return Encoded::Refused(refusal);
-        }
+        write::check_texts(ntp_server, 64, b"", 0)?;
         let timezone = self.timezone;
         let cid = self.cid as u16;
         let numbers = write::decimal_size(timezone) + write::decimal_size(cid);
         if out.len() < 11 + write::quoted_size(ntp_server) + numbers {
-            return Encoded::Refused(7);
+            return Err(Refusal::NoRoom);
         }
-        Encoded::Size(lay_sync(ntp_server, timezone, cid, out))
+        Ok(lay_sync(ntp_server, timezone, cid, out))
     }
 }
 
@@ -192,7 +143,7 @@ fn lay_sync(ntp_server: &[u8], timezone: u16, cid: u16, out: &mut [u8]) -> usize
 pub struct Execute;
 
 impl Execute {
-    pub fn encode(self, out: &mut [u8]) -> Encoded
+    pub fn encode(self, out: &mut [u8]) -> Result<usize, Refusal>
         ensures { EncodeKeeps execute out.old result out.new }
     {
         write::plain(b"AT+CNTP\r", out)

@@ -1,89 +1,70 @@
 // AT+COPS: the operator.
+#![tactic(auto, unfolding(text::specs::Line::checked, text::specs::Reading::only, text::specs::Reading::need_else, crate::specs::Cops::cops_fields, crate::specs::Cops::cops_text))]
+
 ghost use Rattle.std.specs.Prelude.{◌≡◌, ◌+◌, ◌≤◌, drop, length};
 ghost use Rattle.text.specs.Code.{code_in};
 ghost use Rattle.text.specs.Field.{fields};
-ghost use Rattle.text.specs.says.Handed.{at_says, TextKeeps};
+ghost use Rattle.text.specs.says.Handed.{TextKeeps};
+ghost use Rattle.text.specs.says.Refusal.{option_mapped, refusal_said};
 ghost use Rattle.at_command.specs.Cops.{operator_modes, operator_formats, FieldOr, name_of, cops_fields, cops_text};
-ghost use Rattle.at_command.specs.Handed.{name_in, name_handed};
+ghost use Rattle.at_command.specs.Handed.{name_handed};
 ghost use Rattle.at_command.specs.WriterSteps.{Lays};
 ghost use Rattle.at_command.specs.Request.{texts_of, refusal_of, command_of, get_operator_info, set_manual_operator, set_automatic_operator};
-ghost use Rattle.at_command.specs.says.Cops.{says, mode_says, format_says, name_says, OperatorInfoKeeps};
+ghost use Rattle.at_command.specs.says.Cops.{says, mode_number, format_number, name_says, OperatorInfoKeeps};
 ghost use Rattle.at_command.specs.says.Request.{EncodeKeeps};
 
-use crate::request::Encoded;
 use crate::{unquoted, write};
-use text::handed::{LineText, TextAt};
+use text::handed::TextAt;
 use text::part::Place;
+use text::refusal::Refusal;
 use text::{bytes, code, field, handed, line, part, reader};
 
-#[derive(Clone, Copy)]
+#[derive(Clone, Copy, Debug, PartialEq, Eq)]
 pub enum OperatorMode {
-    Automatic,
-    Manual,
-    ManualDeregister,
-    ManualAutomatic,
+    Automatic = 0,
+    Manual = 1,
+    ManualDeregister = 2,
+    ManualAutomatic = 4,
 }
 
-#[derive(Clone, Copy)]
+#[derive(Clone, Copy, Debug, PartialEq, Eq)]
 pub enum OperatorFormat {
-    Long,
-    Short,
-    Numeric,
-}
-
-// Where the operator's name stands: in the line, or in the text lent for it.
-#[derive(Clone, Copy)]
-pub enum OperatorName {
-    InLine(Place),
-    InFallback(Place),
+    Long = 0,
+    Short = 1,
+    Numeric = 2,
 }
 
 #[derive(Clone, Copy)]
 pub struct OperatorInfo {
     pub mode: OperatorMode,
     pub format: OperatorFormat,
-    pub operator_name: OperatorName,
+    // Where the name stands: in the line, or in the text lent for it.
+    pub operator_name: TextAt,
 }
 
-#[derive(Clone, Copy)]
-pub enum OperatorInfoAnswer {
-    Value(OperatorInfo),
-    Refused(u8),
-}
+const MODES: [(&[u8], OperatorMode); 4] = [
+    (b"0", OperatorMode::Automatic),
+    (b"1", OperatorMode::Manual),
+    (b"2", OperatorMode::ManualDeregister),
+    (b"4", OperatorMode::ManualAutomatic),
+];
 
-#[derive(Clone, Copy)]
-enum ModeCode {
-    Is(OperatorMode),
-    Not,
-}
-
-#[derive(Clone, Copy)]
-enum FormatCode {
-    Is(OperatorFormat),
-    Not,
-}
-
-fn mode_of(t: &[u8]) -> ModeCode
-    ensures { mode_says result ≡ code_in operator_modes t.now }
+fn mode_of(t: &[u8]) -> Option<OperatorMode>
+    ensures { option_mapped mode_number result ≡ code_in operator_modes t.now }
 {
-    match code::place_in(t, b"0,1,2,4") {
-        0 => ModeCode::Is(OperatorMode::Automatic),
-        1 => ModeCode::Is(OperatorMode::Manual),
-        2 => ModeCode::Is(OperatorMode::ManualDeregister),
-        3 => ModeCode::Is(OperatorMode::ManualAutomatic),
-        _ => ModeCode::Not,
-    }
+    code::coded(t, &MODES)
 }
 
-fn format_of(t: &[u8]) -> FormatCode
-    ensures { format_says result ≡ code_in operator_formats t.now }
+const FORMATS: [(&[u8], OperatorFormat); 3] = [
+    (b"0", OperatorFormat::Long),
+    (b"1", OperatorFormat::Short),
+    (b"2", OperatorFormat::Numeric),
+];
+
+fn format_of(t: &[u8]) -> Option<OperatorFormat>
+    ensures { option_mapped format_number result ≡ code_in operator_formats t.now }
 {
-    match code::place_in(t, b"0,1,2") {
-        0 => FormatCode::Is(OperatorFormat::Long),
-        1 => FormatCode::Is(OperatorFormat::Short),
-        2 => FormatCode::Is(OperatorFormat::Numeric),
-        _ => FormatCode::Not,
-    }
+    code::coded(t, &FORMATS)
 }
 
 // Field n of t, or the lent fallback text when there is none: a part of one of the two.
@@ -97,15 +78,15 @@ fn field_or<'a>(t: &'a [u8], n: usize, fallback: &'a [u8]) -> &'a [u8]
 }
 
 // The name in a line whose fields follow a prefix of seven bytes.
-fn name_of(line: &[u8], fallback: &[u8]) -> OperatorName
+fn name_of(line: &[u8], fallback: &[u8]) -> TextAt
     ensures { name_says result ≡ name_of (fields 44 (drop 7 line.now)) fallback.now }
 {
     if 2 < field::field_count(part::skip(line, 7), b',') {
-        return OperatorName::InLine(unquoted::unquoted_field(line, 2));
+        return TextAt::InLine(unquoted::unquoted_field(line, 2));
     }
     let start = part::trim_start(fallback, b'"');
     let left = part::trim(fallback, b'"').len();
-    OperatorName::InFallback(Place {
+    TextAt::InFallback(Place {
         start,
         end: start + left,
     })
@@ -115,31 +96,17 @@ fn operator_info<'a>(
     line: &'a [u8],
     format_fallback: &'a [u8],
     name_fallback: &'a [u8],
-) -> OperatorInfoAnswer
+) -> Result<OperatorInfo, Refusal>
     ensures { says result ≡ cops_fields format_fallback.now name_fallback.now (fields 44 (drop 7 line.now)) }
 {
     let rest = part::skip(line, 7);
-    let ModeCode::Is(mode) = mode_of(reader::nth_field(rest, 0)) else {
-        return OperatorInfoAnswer::Refused(3);
-    };
-    let FormatCode::Is(format) = format_of(field_or(rest, 1, format_fallback)) else {
-        return OperatorInfoAnswer::Refused(3);
-    };
-    OperatorInfoAnswer::Value(OperatorInfo {
+    let mode = mode_of(reader::nth_field(rest, 0)).ok_or(Refusal::NotThisLine)?;
+    let format = format_of(field_or(rest, 1, format_fallback)).ok_or(Refusal::NotThisLine)?;
+    Ok(OperatorInfo {
         mode,
         format,
         operator_name: name_of(line, name_fallback),
     })
-}
-
-// Where a name stands that was read.
-fn place_of(name: OperatorName) -> TextAt
-    ensures { at_says result ≡ name_in (name_says name) }
-{
-    match name {
-        OperatorName::InLine(place) => handed::in_line(place),
-        OperatorName::InFallback(place) => handed::in_fallback(place),
-    }
 }
 
 impl OperatorInfo {
@@ -147,11 +114,11 @@ impl OperatorInfo {
         line: &'a [u8],
         format_fallback: &'a [u8],
         name_fallback: &'a [u8],
-    ) -> OperatorInfoAnswer
+    ) -> Result<OperatorInfo, Refusal>
         ensures { says result ≡ cops_text format_fallback.now name_fallback.now line.now }
     {
         if !bytes::starts_with(line, b"+COPS: ") {
-            return OperatorInfoAnswer::Refused(3);
+            return Err(Refusal::NotThisLine);
         }
         operator_info(line, format_fallback, name_fallback)
     }
@@ -160,43 +127,23 @@ impl OperatorInfo {
         line: &'a [u8],
         format_fallback: &'a [u8],
         name_fallback: &'a [u8],
-    ) -> OperatorInfoAnswer
+    ) -> Result<OperatorInfo, Refusal>
         ensures { OperatorInfoKeeps line.now format_fallback.now name_fallback.now result }
     {
-        let k = line::check_line(line);
-        if k != 0 {
-            return OperatorInfoAnswer::Refused(k);
-        }
+        line::check_line(line)?;
         OperatorInfo::from_checked(line, format_fallback, name_fallback)
     }
 
-    // Where the name stands, in the line or in the text lent for it.
-    fn name_at<'a>(line: &'a [u8], format_fallback: &'a [u8], name_fallback: &'a [u8]) -> TextAt
-        ensures { at_says result ≡ name_handed line.now format_fallback.now name_fallback.now }
-    {
-        match OperatorInfo::from_line(line, format_fallback, name_fallback) {
-            OperatorInfoAnswer::Value(v) => {
-                let name = v.operator_name;
-                place_of(name)
-            }
-            OperatorInfoAnswer::Refused(k) => handed::nowhere(k),
-        }
-    }
-
-    // The name, empty where the line is refused, with the number of the refusal.
+    // The name.
     pub fn name_text<'a>(
         line: &'a [u8],
         format_fallback: &'a [u8],
         name_fallback: &'a [u8],
-    ) -> LineText<'a>
+    ) -> Result<&'a [u8], Refusal>
         ensures { TextKeeps line.entry name_fallback.entry (name_handed line.now format_fallback.now name_fallback.now) result }
     {
-        let at = OperatorInfo::name_at(line, format_fallback, name_fallback);
-        let text = handed::cut(at, line, name_fallback);
-        LineText {
-            text,
-            refusal: at.refusal,
-        }
+        let info = OperatorInfo::from_line(line, format_fallback, name_fallback)?;
+        Ok(handed::cut(info.operator_name, line, name_fallback))
     }
 }
 
@@ -205,7 +152,7 @@ impl OperatorInfo {
 pub struct GetOperatorInfo;
 
 impl GetOperatorInfo {
-    pub fn encode(self, out: &mut [u8]) -> Encoded
+    pub fn encode(self, out: &mut [u8]) -> Result<usize, Refusal>
         ensures { EncodeKeeps get_operator_info out.old result out.new }
     {
         write::plain(b"AT+COPS?\r", out)
@@ -217,34 +164,28 @@ impl GetOperatorInfo {
 pub struct SetManualOperator;
 
 impl SetManualOperator {
-    pub fn encode(self, plmn: &[u8], out: &mut [u8]) -> Encoded
+    pub fn encode(self, plmn: &[u8], out: &mut [u8]) -> Result<usize, Refusal>
         ensures { EncodeKeeps (set_manual_operator plmn.now) out.old result out.new }
     {
-        let refusal = number_refusal(plmn);
-        if 0 < refusal {
-            return Encoded::Refused(refusal);
-        }
+        check_number(plmn)?;
         if out.len() < 15 + plmn.len() {
-            return Encoded::Refused(7);
+            return Err(Refusal::NoRoom);
         }
-        Encoded::Size(lay_manual(plmn, out))
+        Ok(lay_manual(plmn, out))
     }
 }
 
-// The refusal of an operator number: 5, then 12; 0 for five or six digits. 6 is not asked for, since digits lie within 32 to 126.
-fn number_refusal(plmn: &[u8]) -> u8
-    ensures { result ≡ refusal_of (texts_of (set_manual_operator plmn.now)) }
+// An operator number is five or six digits. Its bytes are not asked for, since digits lie within 32 to 126.
+fn check_number(plmn: &[u8]) -> Result<(), Refusal>
+    ensures { refusal_said result ≡ refusal_of (texts_of (set_manual_operator plmn.now)) }
 {
     if 6 < plmn.len() {
-        return 5;
+        return Err(Refusal::ArgumentTooLong);
     }
-    if plmn.len() < 5 {
-        return 12;
+    if plmn.len() < 5 || !bytes::all_digits(plmn) {
+        return Err(Refusal::OperatorNumber);
     }
-    if !bytes::all_digits(plmn) {
-        return 12;
-    }
-    0
+    Ok(())
 }
 
 // Lays the command where there is room for it.
@@ -263,7 +204,7 @@ fn lay_manual(plmn: &[u8], out: &mut [u8]) -> usize
 pub struct SetAutomaticOperator;
 
 impl SetAutomaticOperator {
-    pub fn encode(self, out: &mut [u8]) -> Encoded
+    pub fn encode(self, out: &mut [u8]) -> Result<usize, Refusal>
         ensures { EncodeKeeps set_automatic_operator out.old result out.new }
     {
         write::plain(b"AT+COPS=0\r", out)

@@ -1,31 +1,34 @@
 // AT+CPSI: the system mode and the operation mode.
+#![tactic(auto, unfolding(text::specs::Line::checked, text::specs::Reading::only, text::specs::Reading::need_else, crate::specs::Cpsi::cpsi_fields, crate::specs::Cpsi::cpsi_text))]
+
 ghost use Rattle.std.specs.Prelude.{◌≡◌};
 ghost use Rattle.text.specs.Code.{code_in};
 ghost use Rattle.text.specs.Field.{fields};
+ghost use Rattle.text.specs.says.Refusal.{option_mapped};
 ghost use Rattle.at_command.specs.Cpsi.{system_modes, operation_modes, cpsi_fields, cpsi_text};
 ghost use Rattle.at_command.specs.Request.{get_system_info};
-ghost use Rattle.at_command.specs.says.Cpsi.{says, system_says, operation_says, SystemInfoKeeps};
+ghost use Rattle.at_command.specs.says.Cpsi.{says, system_number, operation_number, SystemInfoKeeps};
 ghost use Rattle.at_command.specs.says.Request.{EncodeKeeps};
 
-use crate::request::Encoded;
 use crate::write;
+use text::refusal::Refusal;
 use text::{bytes, code, field, line, part, reader};
 
-#[derive(Clone, Copy)]
+#[derive(Clone, Copy, Debug, PartialEq, Eq)]
 pub enum SystemMode {
-    NoService,
-    Gsm,
-    LteCatM1,
-    LteNbIot,
+    NoService = 0,
+    Gsm = 1,
+    LteCatM1 = 2,
+    LteNbIot = 3,
 }
 
-#[derive(Clone, Copy)]
+#[derive(Clone, Copy, Debug, PartialEq, Eq)]
 pub enum OperationMode {
-    Online,
-    Offline,
-    FactoryTest,
-    Reset,
-    LowPower,
+    Online = 0,
+    Offline = 1,
+    FactoryTest = 2,
+    Reset = 3,
+    LowPower = 4,
 }
 
 #[derive(Clone, Copy)]
@@ -34,84 +37,61 @@ pub struct SystemInfo {
     pub operation_mode: OperationMode,
 }
 
-#[derive(Clone, Copy)]
-pub enum SystemInfoAnswer {
-    Value(SystemInfo),
-    Refused(u8),
-}
+const SYSTEM_MODES: [(&[u8], SystemMode); 4] = [
+    (b"NO SERVICE", SystemMode::NoService),
+    (b"GSM", SystemMode::Gsm),
+    (b"LTE CAT-M1", SystemMode::LteCatM1),
+    (b"LTE NB-IOT", SystemMode::LteNbIot),
+];
 
-#[derive(Clone, Copy)]
-enum SystemCode {
-    Is(SystemMode),
-    Not,
-}
-
-#[derive(Clone, Copy)]
-enum OperationCode {
-    Is(OperationMode),
-    Not,
-}
-
-fn system_of(t: &[u8]) -> SystemCode
-    ensures { system_says result ≡ code_in system_modes t.now }
+fn system_of(t: &[u8]) -> Option<SystemMode>
+    ensures { option_mapped system_number result ≡ code_in system_modes t.now }
 {
-    match code::place_in(t, b"NO SERVICE,GSM,LTE CAT-M1,LTE NB-IOT") {
-        0 => SystemCode::Is(SystemMode::NoService),
-        1 => SystemCode::Is(SystemMode::Gsm),
-        2 => SystemCode::Is(SystemMode::LteCatM1),
-        3 => SystemCode::Is(SystemMode::LteNbIot),
-        _ => SystemCode::Not,
-    }
+    code::coded(t, &SYSTEM_MODES)
 }
 
-fn operation_of(t: &[u8]) -> OperationCode
-    ensures { operation_says result ≡ code_in operation_modes t.now }
+const OPERATION_MODES: [(&[u8], OperationMode); 5] = [
+    (b"Online", OperationMode::Online),
+    (b"Offline", OperationMode::Offline),
+    (b"Factory Test Mode", OperationMode::FactoryTest),
+    (b"Reset", OperationMode::Reset),
+    (b"Low Power Mode", OperationMode::LowPower),
+];
+
+fn operation_of(t: &[u8]) -> Option<OperationMode>
+    ensures { option_mapped operation_number result ≡ code_in operation_modes t.now }
 {
-    match code::place_in(t, b"Online,Offline,Factory Test Mode,Reset,Low Power Mode") {
-        0 => OperationCode::Is(OperationMode::Online),
-        1 => OperationCode::Is(OperationMode::Offline),
-        2 => OperationCode::Is(OperationMode::FactoryTest),
-        3 => OperationCode::Is(OperationMode::Reset),
-        4 => OperationCode::Is(OperationMode::LowPower),
-        _ => OperationCode::Not,
-    }
+    code::coded(t, &OPERATION_MODES)
 }
 
-fn system_info(t: &[u8]) -> SystemInfoAnswer
+fn system_info(t: &[u8]) -> Result<SystemInfo, Refusal>
     ensures { says result ≡ cpsi_fields (fields 44 t.now) }
 {
     if field::field_count(t, b',') < 9 {
-        return SystemInfoAnswer::Refused(3);
+        return Err(Refusal::NotThisLine);
     }
-    let SystemCode::Is(system_mode) = system_of(reader::nth_field(t, 0)) else {
-        return SystemInfoAnswer::Refused(3);
-    };
-    let OperationCode::Is(operation_mode) = operation_of(reader::nth_field(t, 1)) else {
-        return SystemInfoAnswer::Refused(3);
-    };
-    SystemInfoAnswer::Value(SystemInfo {
+    let system_mode = system_of(reader::nth_field(t, 0)).ok_or(Refusal::NotThisLine)?;
+    let operation_mode = operation_of(reader::nth_field(t, 1)).ok_or(Refusal::NotThisLine)?;
+    Ok(SystemInfo {
         system_mode,
         operation_mode,
     })
 }
 
 impl SystemInfo {
-    pub(crate) fn from_checked(line: &[u8]) -> SystemInfoAnswer
+    pub(crate) fn from_checked(line: &[u8]) -> Result<SystemInfo, Refusal>
         ensures { says result ≡ cpsi_text line.now }
     {
         if !bytes::starts_with(line, b"+CPSI: ") {
-            return SystemInfoAnswer::Refused(3);
+            return Err(Refusal::NotThisLine);
         }
         system_info(part::skip(line, 7))
     }
 
-    pub fn from_line(line: &[u8]) -> SystemInfoAnswer
+    pub fn from_line(line: &[u8]) -> Result<SystemInfo, Refusal>
         ensures { SystemInfoKeeps line.now result }
     {
-        let k = line::check_line(line);
-        if k != 0 {
-            return SystemInfoAnswer::Refused(k);
-        }
+        line::check_line(line)?;
         SystemInfo::from_checked(line)
     }
 }
@@ -121,7 +101,7 @@ impl SystemInfo {
 pub struct GetSystemInfo;
 
 impl GetSystemInfo {
-    pub fn encode(self, out: &mut [u8]) -> Encoded
+    pub fn encode(self, out: &mut [u8]) -> Result<usize, Refusal>
         ensures { EncodeKeeps get_system_info out.old result out.new }
     {
         write::plain(b"AT+CPSI?\r", out)

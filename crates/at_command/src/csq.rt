@@ -1,55 +1,39 @@
 // AT+CSQ: the strength and the quality of the signal.
+#![tactic(auto, unfolding(text::specs::Line::checked, text::specs::Reading::only, text::specs::Reading::need_else, crate::specs::Csq::csq_codes, crate::specs::Csq::csq_rest, crate::specs::Csq::csq_text))]
+
 ghost use Rattle.std.specs.Prelude.{◌≡◌, ◌≤◌};
+ghost use Rattle.text.specs.says.Refusal.{option_said, option_mapped};
 ghost use Rattle.at_command.specs.Csq.{dbm_of, strength_of, quality_of, level_of, csq_codes, csq_rest, csq_text};
 ghost use Rattle.at_command.specs.Request.{get_signal_quality};
-ghost use Rattle.at_command.specs.says.Csq.{says, code_says, SignalQualityKeeps};
+ghost use Rattle.at_command.specs.says.Csq.{says, SignalQualityKeeps};
 ghost use Rattle.at_command.specs.says.Request.{EncodeKeeps};
 
-use crate::request::Encoded;
 use crate::write;
-use text::number::ParsedU8;
+use text::refusal::Refusal;
 use text::{bytes, line, number, part};
-
-// A percentage, where it is known.
-#[derive(Clone, Copy)]
-pub enum SignalLevel {
-    None,
-    Some(f32),
-}
 
 #[derive(Clone, Copy)]
 pub struct SignalQuality {
-    pub signal_strength: SignalLevel,
-    pub signal_quality: SignalLevel,
-}
-
-#[derive(Clone, Copy)]
-pub enum SignalQualityAnswer {
-    Value(SignalQuality),
-    Refused(u8),
-}
-
-#[derive(Clone, Copy)]
-enum LevelCode {
-    Is(SignalLevel),
-    Not,
+    // A percentage, where it is known.
+    pub signal_strength: Option<f32>,
+    // A percentage, where it is known.
+    pub signal_quality: Option<f32>,
 }
 
 // The bit error rates, in percent.
 const RATES: [f32; 8] = [0.14, 0.28, 0.57, 1.13, 2.26, 4.53, 9.05, 18.10];
 
 // The power in dBm.
+#[tactic(auto, using(crate::proofs::csq::Laws::power_is), unfolding(crate::specs::Csq::dbm_of))]
 fn dbm(rssi: u8) -> i32
     requires { rssi ≤ 31 }
     ensures { result ≡ dbm_of rssi }
 {
-    if rssi == 0 {
-        return -115;
+    match rssi {
+        0 => -115,
+        1 => -111,
+        _ => -110 + 2 * (rssi as i32 - 2),
     }
-    if rssi == 1 {
-        return -111;
-    }
-    -110 + 2 * (rssi as i32 - 2)
 }
 
 // The power above -115 dBm, as a percentage of the 63 dB up to the strongest. Each step rounds, so the division stays first.
@@ -60,79 +44,66 @@ fn strength(rssi: u8) -> f32
     100.0 * ((dbm(rssi) + 115) as f32 / 63.0)
 }
 
-fn strength_of(rssi: u8) -> LevelCode
-    ensures { code_says result ≡ level_of 31 strength_of rssi }
+#[tactic(auto, using(crate::proofs::csq::Laws::quality_is), unfolding(crate::specs::Csq::level_of))]
+// The level of a known code; 99 says that it is not known.
+fn strength_of(rssi: u8) -> Option<Option<f32>>
+    ensures { option_mapped option_said result ≡ level_of 31 strength_of rssi }
 {
-    if rssi <= 31 {
-        return LevelCode::Is(SignalLevel::Some(strength(rssi)));
+    match rssi {
+        0..=31 => Some(Some(strength(rssi))),
+        99 => Some(None),
+        _ => None,
     }
-    if rssi == 99 {
-        return LevelCode::Is(SignalLevel::None);
-    }
-    LevelCode::Not
 }
 
+#[tactic(auto, using(crate::proofs::csq::Laws::quality_is), unfolding(crate::specs::Csq::level_of))]
 // What the bit error rate leaves of 100 percent.
-fn quality_of(ber: u8) -> LevelCode
-    ensures { code_says result ≡ level_of 7 quality_of ber }
+fn quality_of(ber: u8) -> Option<Option<f32>>
+    ensures { option_mapped option_said result ≡ level_of 7 quality_of ber }
 {
-    if ber <= 7 {
-        let i = ber as usize;
-        return LevelCode::Is(SignalLevel::Some(100.0 - RATES[i]));
+    match ber {
+        0..=7 => Some(Some(100.0 - RATES[ber as usize])),
+        99 => Some(None),
+        _ => None,
     }
-    if ber == 99 {
-        return LevelCode::Is(SignalLevel::None);
-    }
-    LevelCode::Not
 }
 
-fn signal_codes(rssi: u8, ber: u8) -> SignalQualityAnswer
+fn signal_codes(rssi: u8, ber: u8) -> Result<SignalQuality, Refusal>
     ensures { says result ≡ csq_codes rssi ber }
 {
-    let LevelCode::Is(signal_strength) = strength_of(rssi) else {
-        return SignalQualityAnswer::Refused(3);
-    };
-    let LevelCode::Is(signal_quality) = quality_of(ber) else {
-        return SignalQualityAnswer::Refused(3);
-    };
-    SignalQualityAnswer::Value(SignalQuality {
+    let signal_strength = strength_of(rssi).ok_or(Refusal::NotThisLine)?;
+    let signal_quality = quality_of(ber).ok_or(Refusal::NotThisLine)?;
+    Ok(SignalQuality {
         signal_strength,
         signal_quality,
     })
 }
 
-fn signal_quality(t: &[u8]) -> SignalQualityAnswer
+fn signal_quality(t: &[u8]) -> Result<SignalQuality, Refusal>
     ensures { says result ≡ csq_rest t.now }
 {
     if !bytes::has_byte(t, b',') {
-        return SignalQualityAnswer::Refused(3);
+        return Err(Refusal::NotThisLine);
     }
-    let ParsedU8::Is(rssi) = number::parse_u8(part::before_byte(t, b',')) else {
-        return SignalQualityAnswer::Refused(3);
-    };
-    let ParsedU8::Is(ber) = number::parse_u8(part::after_byte(t, b',')) else {
-        return SignalQualityAnswer::Refused(3);
-    };
+    let rssi = number::parse_u8(part::before_byte(t, b',')).ok_or(Refusal::NotThisLine)?;
+    let ber = number::parse_u8(part::after_byte(t, b',')).ok_or(Refusal::NotThisLine)?;
     signal_codes(rssi, ber)
 }
 
 impl SignalQuality {
-    pub(crate) fn from_checked(line: &[u8]) -> SignalQualityAnswer
+    pub(crate) fn from_checked(line: &[u8]) -> Result<SignalQuality, Refusal>
         ensures { says result ≡ csq_text line.now }
     {
         if !bytes::starts_with(line, b"+CSQ: ") {
-            return SignalQualityAnswer::Refused(3);
+            return Err(Refusal::NotThisLine);
         }
         signal_quality(part::skip(line, 6))
     }
 
-    pub fn from_line(line: &[u8]) -> SignalQualityAnswer
+    pub fn from_line(line: &[u8]) -> Result<SignalQuality, Refusal>
         ensures { SignalQualityKeeps line.now result }
     {
-        let k = line::check_line(line);
-        if k != 0 {
-            return SignalQualityAnswer::Refused(k);
-        }
+        line::check_line(line)?;
         SignalQuality::from_checked(line)
     }
 }
@@ -142,7 +113,7 @@ impl SignalQuality {
 pub struct GetSignalQuality;
 
 impl GetSignalQuality {
-    pub fn encode(self, out: &mut [u8]) -> Encoded
+    pub fn encode(self, out: &mut [u8]) -> Result<usize, Refusal>
         ensures { EncodeKeeps get_signal_quality out.old result out.new }
     {
         write::plain(b"AT+CSQ\r", out)

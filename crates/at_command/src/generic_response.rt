@@ -1,9 +1,11 @@
 // The final lines: OK, errors, the prompt, and the end of a connection.
+#![tactic(auto, unfolding(text::specs::Line::checked, text::specs::Reading::only, text::specs::Reading::need_else, text::specs::Reading::either, crate::specs::Generic::ok_text, crate::specs::Generic::error_text, crate::specs::Generic::prompt_text, crate::specs::Generic::close_text))]
+
 ghost use Rattle.std.specs.Prelude.{◌≡◌};
 ghost use Rattle.at_command.specs.Generic.{ok_text, error_text, prompt_text, close_text};
 ghost use Rattle.at_command.specs.says.Generic.{ok_says, error_says, prompt_says, close_says, GenericOkKeeps, SimErrorKeeps, WritePromptKeeps, CloseOkKeeps};
 
-use text::number::{ParsedU32, ParsedU64};
+use text::refusal::Refusal;
 use text::{bytes, line, number, part};
 
 #[derive(Clone, Copy)]
@@ -29,129 +31,87 @@ pub struct CloseOk {
     pub connection: u64,
 }
 
-#[derive(Clone, Copy)]
-pub enum GenericOkAnswer {
-    Value(GenericOk),
-    Refused(u8),
-}
-
-#[derive(Clone, Copy)]
-pub enum SimErrorAnswer {
-    Value(SimError),
-    Refused(u8),
-}
-
-#[derive(Clone, Copy)]
-pub enum WritePromptAnswer {
-    Value(WritePrompt),
-    Refused(u8),
-}
-
-#[derive(Clone, Copy)]
-pub enum CloseOkAnswer {
-    Value(CloseOk),
-    Refused(u8),
-}
-
 impl GenericOk {
-    pub(crate) fn from_checked(line: &[u8]) -> GenericOkAnswer
+    pub(crate) fn from_checked(line: &[u8]) -> Result<GenericOk, Refusal>
         ensures { ok_says result ≡ ok_text line.now }
     {
         if bytes::is_text(line, b"OK") {
-            return GenericOkAnswer::Value(GenericOk);
+            return Ok(GenericOk);
         }
         if bytes::is_text(line, b"SHUT OK") {
-            return GenericOkAnswer::Value(GenericOk);
+            return Ok(GenericOk);
         }
-        GenericOkAnswer::Refused(3)
+        Err(Refusal::NotThisLine)
     }
 
-    pub fn from_line(line: &[u8]) -> GenericOkAnswer
+    pub fn from_line(line: &[u8]) -> Result<GenericOk, Refusal>
         ensures { GenericOkKeeps line.now result }
     {
-        let k = line::check_line(line);
-        if k != 0 {
-            return GenericOkAnswer::Refused(k);
-        }
+        line::check_line(line)?;
         GenericOk::from_checked(line)
     }
 }
 
 impl SimError {
-    pub(crate) fn from_checked(line: &[u8]) -> SimErrorAnswer
+    pub(crate) fn from_checked(line: &[u8]) -> Result<SimError, Refusal>
         ensures { error_says result ≡ error_text line.now }
     {
         if bytes::starts_with(line, b"+CME ERROR: ") {
-            let ParsedU32::Is(code) = number::parse_u32(part::skip(line, 12)) else {
-                return SimErrorAnswer::Refused(3);
-            };
-            return SimErrorAnswer::Value(SimError::CmeErr { code });
+            let code = number::parse_u32(part::skip(line, 12)).ok_or(Refusal::NotThisLine)?;
+            return Ok(SimError::CmeErr { code });
         }
         if bytes::starts_with(line, b"+CMS ERROR: ") {
-            let ParsedU32::Is(code) = number::parse_u32(part::skip(line, 12)) else {
-                return SimErrorAnswer::Refused(3);
-            };
-            return SimErrorAnswer::Value(SimError::CmsErr { code });
+            let code = number::parse_u32(part::skip(line, 12)).ok_or(Refusal::NotThisLine)?;
+            return Ok(SimError::CmsErr { code });
         }
         if bytes::is_text(line, b"ERROR") {
-            return SimErrorAnswer::Value(SimError::Generic);
+            return Ok(SimError::Generic);
         }
-        SimErrorAnswer::Refused(3)
+        Err(Refusal::NotThisLine)
     }
 
-    pub fn from_line(line: &[u8]) -> SimErrorAnswer
+    pub fn from_line(line: &[u8]) -> Result<SimError, Refusal>
         ensures { SimErrorKeeps line.now result }
     {
-        let k = line::check_line(line);
-        if k != 0 {
-            return SimErrorAnswer::Refused(k);
-        }
+        line::check_line(line)?;
         SimError::from_checked(line)
     }
 }
 
 impl WritePrompt {
-    pub(crate) fn from_checked(line: &[u8]) -> WritePromptAnswer
+    pub(crate) fn from_checked(line: &[u8]) -> Result<WritePrompt, Refusal>
         ensures { prompt_says result ≡ prompt_text line.now }
     {
         if bytes::is_text(line, b"> ") {
-            return WritePromptAnswer::Value(WritePrompt);
+            return Ok(WritePrompt);
         }
-        WritePromptAnswer::Refused(3)
+        Err(Refusal::NotThisLine)
     }
 
-    pub fn from_line(line: &[u8]) -> WritePromptAnswer
+    pub fn from_line(line: &[u8]) -> Result<WritePrompt, Refusal>
         ensures { WritePromptKeeps line.now result }
     {
-        let k = line::check_line(line);
-        if k != 0 {
-            return WritePromptAnswer::Refused(k);
-        }
+        line::check_line(line)?;
         WritePrompt::from_checked(line)
     }
 }
 
 impl CloseOk {
-    pub(crate) fn from_checked(line: &[u8]) -> CloseOkAnswer
+    pub(crate) fn from_checked(line: &[u8]) -> Result<CloseOk, Refusal>
         ensures { close_says result ≡ close_text line.now }
     {
         if !bytes::ends_with(line, b", CLOSE OK") {
-            return CloseOkAnswer::Refused(3);
+            return Err(Refusal::NotThisLine);
         }
-        let ParsedU64::Is(connection) = number::parse_u64(part::part(line, 0, line.len() - 10))
-        else {
-            return CloseOkAnswer::Refused(3);
-        };
-        CloseOkAnswer::Value(CloseOk { connection })
+        let number = part::part(line, 0, line.len() - 10);
+        let connection = number::parse_u64(number).ok_or(Refusal::NotThisLine)?;
+        Ok(CloseOk { connection })
     }
 
-    pub fn from_line(line: &[u8]) -> CloseOkAnswer
+    pub fn from_line(line: &[u8]) -> Result<CloseOk, Refusal>
         ensures { CloseOkKeeps line.now result }
     {
-        let k = line::check_line(line);
-        if k != 0 {
-            return CloseOkAnswer::Refused(k);
-        }
+        line::check_line(line)?;
         CloseOk::from_checked(line)
     }
 }

@@ -1,30 +1,26 @@
 // AT+GSN: the IMEI, or the IMEI with its software version.
+#![tactic(auto, unfolding(text::specs::Line::checked, text::specs::Reading::only, text::specs::Reading::either, crate::specs::Gsn::imei_text))]
+
 ghost use Rattle.std.specs.Prelude.{true, ◌≡◌, ◌≤◌, length};
 ghost use Rattle.text.specs.Bytes.{all_digits};
-ghost use Rattle.text.specs.says.Handed.{at_says, TextKeeps};
-ghost use Rattle.at_command.specs.Gsn.{doubled, check_digit, imei_text};
+ghost use Rattle.text.specs.says.Handed.{TextKeeps};
+ghost use Rattle.at_command.specs.Gsn.{doubled, check_digit, is_imei, imei_text};
 ghost use Rattle.at_command.specs.Handed.{imei_handed};
 ghost use Rattle.at_command.specs.Request.{get_imei};
 ghost use Rattle.at_command.specs.says.Gsn.{says, ImeiKeeps};
 ghost use Rattle.at_command.specs.says.Request.{EncodeKeeps};
 
-use crate::request::Encoded;
 use crate::write;
-use text::handed::{LineText, TextAt};
+use text::handed::TextAt;
 use text::part::Place;
-use text::{bytes, digit, handed, line, part};
+use text::refusal::Refusal;
+use text::{bytes, digit, handed, line};
 
 // Where the digits stand, which is the whole line, and what they are: fifteen an IMEI, sixteen a version number (TS 23.003's IMEISV).
 #[derive(Clone, Copy)]
 pub struct Imei {
     pub imei: Place,
     pub is_version_number: bool,
-}
-
-#[derive(Clone, Copy)]
-pub enum ImeiAnswer {
-    Value(Imei),
-    Refused(u8),
 }
 
 // The digits of twice d, added.
@@ -42,82 +38,61 @@ fn check_digit(s: &[u8]) -> u8
 {
     let mut sum: u8 = 0;
     let mut odd = false;
-    let mut i = 0;
-    while i < s.len() {
-        let d = digit::value(s[i]);
-        if odd {
-            sum += double(d);
-            odd = false;
-            i += 1;
-        } else {
-            sum += d;
-            odd = true;
-            i += 1;
-        }
+    for x in s {
+        let d = digit::value(*x);
+        sum += if odd { double(d) } else { d };
+        odd = !odd;
     }
     (10 - sum % 10) % 10
 }
 
+// Whether digits are fourteen and their check digit.
+fn is_imei(s: &[u8]) -> bool
+    requires { all_digits s.now ≡ true }
+    ensures { result ≡ is_imei s.now }
+{
+    s.len() == 15 && digit::value(s[14]) == check_digit(&s[..14])
+}
+
 impl Imei {
-    pub(crate) fn from_checked(line: &[u8]) -> ImeiAnswer
+    pub(crate) fn from_checked(line: &[u8]) -> Result<Imei, Refusal>
         ensures { says result ≡ imei_text line.now }
     {
-        let n = line.len();
-        if n < 15 {
-            return ImeiAnswer::Refused(3);
-        }
-        if 16 < n {
-            return ImeiAnswer::Refused(3);
-        }
         if !bytes::all_digits(line) {
-            return ImeiAnswer::Refused(3);
+            return Err(Refusal::NotThisLine);
         }
-        if n == 16 {
-            return ImeiAnswer::Value(Imei {
-                imei: Place { start: 0, end: n },
+        let imei = Place {
+            start: 0,
+            end: line.len(),
+        };
+        if is_imei(line) {
+            return Ok(Imei {
+                imei,
+                is_version_number: false,
+            });
+        }
+        if line.len() == 16 {
+            return Ok(Imei {
+                imei,
                 is_version_number: true,
             });
         }
-        let last = digit::value(line[14]);
-        if last != check_digit(part::part(line, 0, 14)) {
-            return ImeiAnswer::Refused(3);
-        }
-        ImeiAnswer::Value(Imei {
-            imei: Place { start: 0, end: n },
-            is_version_number: false,
-        })
+        Err(Refusal::NotThisLine)
     }
 
-    pub fn from_line(line: &[u8]) -> ImeiAnswer
+    pub fn from_line(line: &[u8]) -> Result<Imei, Refusal>
         ensures { ImeiKeeps line.now result }
     {
-        let k = line::check_line(line);
-        if k != 0 {
-            return ImeiAnswer::Refused(k);
-        }
+        line::check_line(line)?;
         Imei::from_checked(line)
     }
 
-    // Where the number stands in the line.
-    fn imei_at(line: &[u8]) -> TextAt
-        ensures { at_says result ≡ imei_handed line.now }
-    {
-        match Imei::from_line(line) {
-            ImeiAnswer::Value(v) => handed::in_line(v.imei),
-            ImeiAnswer::Refused(k) => handed::nowhere(k),
-        }
-    }
-
-    // The IMEI or version number, empty where the line is refused, with the number of the refusal.
-    pub fn imei_text<'a>(line: &'a [u8]) -> LineText<'a>
+    // The IMEI or version number.
+    pub fn imei_text<'a>(line: &'a [u8]) -> Result<&'a [u8], Refusal>
         ensures { TextKeeps line.entry line.entry (imei_handed line.now) result }
     {
-        let at = Imei::imei_at(line);
-        let text = handed::cut(at, line, line);
-        LineText {
-            text,
-            refusal: at.refusal,
-        }
+        let number = Imei::from_line(line)?;
+        Ok(handed::cut(TextAt::InLine(number.imei), line, line))
     }
 }
 
@@ -126,7 +101,7 @@ impl Imei {
 pub struct GetImei;
 
 impl GetImei {
-    pub fn encode(self, out: &mut [u8]) -> Encoded
+    pub fn encode(self, out: &mut [u8]) -> Result<usize, Refusal>
         ensures { EncodeKeeps get_imei out.old result out.new }
     {
         write::plain(b"AT+GSN\r", out)

@@ -1,4 +1,6 @@
 // AT+HTTPTOFS: a download to the modem's file system.
+#![tactic(auto, unfolding(text::specs::Line::checked, text::specs::Reading::only, crate::specs::Httptofs::download_of, crate::specs::Httptofs::httptofs_text))]
+
 ghost use Rattle.std.specs.Prelude.{◌≡◌, ◌+◌, ◌≤◌, length, drop};
 ghost use Rattle.text.specs.Gives.{Gives};
 ghost use Rattle.text.specs.Code.{code_in};
@@ -11,27 +13,26 @@ ghost use Rattle.at_command.specs.Request.{command_of, download_to_file_system};
 ghost use Rattle.at_command.specs.says.Httptofs.{says, status_number, info_says, DownloadInfoKeeps, SuccessKeeps};
 ghost use Rattle.at_command.specs.says.Request.{EncodeKeeps};
 
-use crate::request::Encoded;
 use crate::write;
-use text::number::ParsedU64;
-use text::{bytes, line, number, part};
+use text::refusal::Refusal;
+use text::{bytes, code, line, number, part};
 
-#[derive(Clone, Copy)]
+#[derive(Clone, Copy, Debug, PartialEq, Eq)]
 pub enum StatusCode {
-    Continue,
-    Ok,
-    PartialContent,
-    BadRequest,
-    NotFound,
-    RequestTimeout,
-    InternalServerError,
-    NotHttpPdu,
-    NetworkError,
-    NoMemory,
-    DnsError,
-    StackBusy,
-    SslContinue,
-    OtherErrors,
+    Continue = 100,
+    Ok = 200,
+    PartialContent = 206,
+    BadRequest = 400,
+    NotFound = 404,
+    RequestTimeout = 408,
+    InternalServerError = 500,
+    NotHttpPdu = 600,
+    NetworkError = 601,
+    NoMemory = 602,
+    DnsError = 603,
+    StackBusy = 604,
+    SslContinue = 620,
+    OtherErrors = 0,
 }
 
 #[derive(Clone, Copy)]
@@ -40,111 +41,51 @@ pub struct DownloadInfo {
     pub data_length: u64,
 }
 
-#[derive(Clone, Copy)]
-pub enum DownloadInfoAnswer {
-    Value(DownloadInfo),
-    Refused(u8),
-}
-
-// Whether a download succeeded, or the code of why not.
-#[derive(Clone, Copy)]
-pub enum Success {
-    Ok,
-    Err(StatusCode),
-}
-
 impl StatusCode {
     // The code's number, 0 for OtherErrors.
     pub fn number(self) -> u16
         ensures { Gives (status_number self) result }
     {
-        match self {
-            StatusCode::Continue => 100,
-            StatusCode::Ok => 200,
-            StatusCode::PartialContent => 206,
-            StatusCode::BadRequest => 400,
-            StatusCode::NotFound => 404,
-            StatusCode::RequestTimeout => 408,
-            StatusCode::InternalServerError => 500,
-            StatusCode::NotHttpPdu => 600,
-            StatusCode::NetworkError => 601,
-            StatusCode::NoMemory => 602,
-            StatusCode::DnsError => 603,
-            StatusCode::StackBusy => 604,
-            StatusCode::SslContinue => 620,
-            StatusCode::OtherErrors => 0,
-        }
+        self as u16
     }
 
-    pub fn success(self) -> Success
+    // Whether a download succeeded, or the code of why not.
+    pub fn success(self) -> Result<(), StatusCode>
         ensures { SuccessKeeps self result }
     {
-        if self.number() == 200 {
-            return Success::Ok;
+        match self {
+            StatusCode::Ok => Ok(()),
+            failure => Err(failure),
         }
-        Success::Err(self)
     }
 }
 
-// The codes one after the other, in two calls: the compiler compares a constant text of three bytes at once.
-fn later_status_of(t: &[u8]) -> StatusCode
-    ensures { status_number result ≡ or_zero (code_in (drop 7 http_codes) t.now) }
-{
-    if bytes::is_text(t, b"600") {
-        return StatusCode::NotHttpPdu;
-    }
-    if bytes::is_text(t, b"601") {
-        return StatusCode::NetworkError;
-    }
-    if bytes::is_text(t, b"602") {
-        return StatusCode::NoMemory;
-    }
-    if bytes::is_text(t, b"603") {
-        return StatusCode::DnsError;
-    }
-    if bytes::is_text(t, b"604") {
-        return StatusCode::StackBusy;
-    }
-    if bytes::is_text(t, b"620") {
-        return StatusCode::SslContinue;
-    }
-    StatusCode::OtherErrors
-}
+const CODES: [(&[u8], StatusCode); 13] = [
+    (b"100", StatusCode::Continue),
+    (b"200", StatusCode::Ok),
+    (b"206", StatusCode::PartialContent),
+    (b"400", StatusCode::BadRequest),
+    (b"404", StatusCode::NotFound),
+    (b"408", StatusCode::RequestTimeout),
+    (b"500", StatusCode::InternalServerError),
+    (b"600", StatusCode::NotHttpPdu),
+    (b"601", StatusCode::NetworkError),
+    (b"602", StatusCode::NoMemory),
+    (b"603", StatusCode::DnsError),
+    (b"604", StatusCode::StackBusy),
+    (b"620", StatusCode::SslContinue),
+];
 
 fn status_of(t: &[u8]) -> StatusCode
     ensures { status_number result ≡ or_zero (code_in http_codes t.now) }
 {
-    if bytes::is_text(t, b"100") {
-        return StatusCode::Continue;
-    }
-    if bytes::is_text(t, b"200") {
-        return StatusCode::Ok;
-    }
-    if bytes::is_text(t, b"206") {
-        return StatusCode::PartialContent;
-    }
-    if bytes::is_text(t, b"400") {
-        return StatusCode::BadRequest;
-    }
-    if bytes::is_text(t, b"404") {
-        return StatusCode::NotFound;
-    }
-    if bytes::is_text(t, b"408") {
-        return StatusCode::RequestTimeout;
-    }
-    if bytes::is_text(t, b"500") {
-        return StatusCode::InternalServerError;
-    }
-    later_status_of(t)
+    code::coded(t, &CODES).unwrap_or(StatusCode::OtherErrors)
 }
 
 fn length_of(t: &[u8]) -> u64
     ensures { result ≡ or_zero (unsigned 10 18446744073709551615 (after 44 t.now)) }
 {
-    match number::parse_u64(part::after_byte(t, b',')) {
-        ParsedU64::Is(n) => n,
-        ParsedU64::Not => 0,
-    }
+    number::parse_u64(part::after_byte(t, b',')).unwrap_or(0)
 }
 
 fn download(t: &[u8]) -> DownloadInfo
@@ -157,22 +98,19 @@ fn download(t: &[u8]) -> DownloadInfo
 }
 
 impl DownloadInfo {
-    pub(crate) fn from_checked(line: &[u8]) -> DownloadInfoAnswer
+    pub(crate) fn from_checked(line: &[u8]) -> Result<DownloadInfo, Refusal>
         ensures { says result ≡ httptofs_text line.now }
     {
         if !bytes::starts_with(line, b"+HTTPTOFS: ") {
-            return DownloadInfoAnswer::Refused(3);
+            return Err(Refusal::NotThisLine);
         }
-        DownloadInfoAnswer::Value(download(part::skip(line, 11)))
+        Ok(download(part::skip(line, 11)))
     }
 
-    pub fn from_line(line: &[u8]) -> DownloadInfoAnswer
+    pub fn from_line(line: &[u8]) -> Result<DownloadInfo, Refusal>
         ensures { DownloadInfoKeeps line.now result }
     {
-        let k = line::check_line(line);
-        if k != 0 {
-            return DownloadInfoAnswer::Refused(k);
-        }
+        line::check_line(line)?;
         DownloadInfo::from_checked(line)
     }
 }
@@ -182,17 +120,14 @@ impl DownloadInfo {
 pub struct DownloadToFileSystem;
 
 impl DownloadToFileSystem {
-    pub fn encode(self, url: &[u8], file_path: &[u8], out: &mut [u8]) -> Encoded
+    pub fn encode(self, url: &[u8], file_path: &[u8], out: &mut [u8]) -> Result<usize, Refusal>
         ensures { EncodeKeeps (download_to_file_system url.now file_path.now) out.old result out.new }
     {
-        let refusal = write::refusal(url, 64, file_path, 32);
-        if 0 < refusal {
-            return Encoded::Refused(refusal);
-        }
+        write::check_texts(url, 64, file_path, 32)?;
         if out.len() < 14 + write::quoted_size(url) + write::quoted_size(file_path) {
-            return Encoded::Refused(7);
+            return Err(Refusal::NoRoom);
         }
-        Encoded::Size(lay_download(url, file_path, out))
+        Ok(lay_download(url, file_path, out))
     }
 }
 

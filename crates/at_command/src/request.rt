@@ -12,30 +12,24 @@ use crate::cpsi::GetSystemInfo;
 use crate::csq::GetSignalQuality;
 use crate::gsn::GetImei;
 use crate::httptofs::DownloadToFileSystem;
-
-// The size of the command that was written, or the refusal: 5, 12, 6 or 7.
-#[derive(Clone, Copy)]
-pub enum Encoded {
-    Size(usize),
-    Refused(u8),
-}
+use text::refusal::Refusal;
 
 // The kinds of response, in the order of trial.
-#[derive(Clone, Copy)]
+#[derive(Clone, Copy, Debug, PartialEq, Eq)]
 pub enum ResponseKind {
-    GenericOk,
-    SimError,
-    WritePrompt,
-    CloseOk,
-    Iccid,
-    SignalQuality,
-    SystemInfo,
-    OperatorInfo,
-    NetworkTime,
-    DownloadInfo,
-    Imei,
-    SmsMessageFormat,
-    SmsMessage,
+    GenericOk = 0,
+    SimError = 1,
+    WritePrompt = 2,
+    CloseOk = 3,
+    Iccid = 4,
+    SignalQuality = 5,
+    SystemInfo = 6,
+    OperatorInfo = 7,
+    NetworkTime = 8,
+    DownloadInfo = 9,
+    Imei = 10,
+    SmsMessageFormat = 11,
+    SmsMessage = 12,
 }
 
 impl ResponseKind {
@@ -43,21 +37,7 @@ impl ResponseKind {
     pub fn place(self) -> u8
         ensures { Gives (place_of (kind_says self)) result }
     {
-        match self {
-            ResponseKind::GenericOk => 0,
-            ResponseKind::SimError => 1,
-            ResponseKind::WritePrompt => 2,
-            ResponseKind::CloseOk => 3,
-            ResponseKind::Iccid => 4,
-            ResponseKind::SignalQuality => 5,
-            ResponseKind::SystemInfo => 6,
-            ResponseKind::OperatorInfo => 7,
-            ResponseKind::NetworkTime => 8,
-            ResponseKind::DownloadInfo => 9,
-            ResponseKind::Imei => 10,
-            ResponseKind::SmsMessageFormat => 11,
-            ResponseKind::SmsMessage => 12,
-        }
+        self as u8
     }
 
     // The kind at a place; past the last, the last.
@@ -149,9 +129,10 @@ impl Request {
         }
     }
 
+    // The size of the command that was written, or the refusal: 5, 12, 6 or 7.
     // SetManualOperator's plmn, SynchronizeNetworkTime's ntp_server and DownloadToFileSystem's url are `first`, and the last one's
     // file_path is `second`; the other requests have no texts.
-    pub fn encode(self, first: &[u8], second: &[u8], out: &mut [u8]) -> Encoded
+    pub fn encode(self, first: &[u8], second: &[u8], out: &mut [u8]) -> Result<usize, Refusal>
         ensures { EncodeKeeps (asked self first.now second.now) out.old result out.new }
     {
         match self {
@@ -163,17 +144,13 @@ impl Request {
             Request::SetAutomaticOperator => SetAutomaticOperator.encode(out),
             Request::GetSystemInfo => GetSystemInfo.encode(out),
             Request::SynchronizeNetworkTime { timezone, cid } => {
-                SynchronizeNetworkTime {
-                    timezone: timezone,
-                    cid: cid,
-                }
-                .encode(first, out)
+                SynchronizeNetworkTime { timezone, cid }.encode(first, out)
             }
             Request::Execute => Execute.encode(out),
             Request::DownloadToFileSystem => DownloadToFileSystem.encode(first, second, out),
             Request::GetSmsMessageFormat => GetSmsMessageFormat.encode(out),
             Request::SetSmsMessageFormat(format) => SetSmsMessageFormat(format).encode(out),
-            Request::ReadSms { index } => ReadSms { index: index }.encode(out),
+            Request::ReadSms { index } => ReadSms { index }.encode(out),
         }
     }
 }

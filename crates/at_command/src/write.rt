@@ -1,30 +1,30 @@
 // Laying a command into a lent buffer, piece behind piece.
 ghost use Rattle.std.specs.Prelude.{◌≡◌, [], ◌∷◌, ◌+◌, ◌%◌, ◌≤◌, ◌<◌, length};
+ghost use Rattle.text.specs.says.Refusal.{refusal_said};
 ghost use Rattle.at_command.specs.WriterSteps.{Lays, last_digits, HasDigits};
 ghost use Rattle.at_command.specs.Piece.{marked, escaped, quoted, decimal};
 ghost use Rattle.at_command.specs.Request.{up_to, refusal_of, fitting, LeavesWritten};
 ghost use Rattle.at_command.specs.says.Request.{encoded_says};
 
-use crate::request::Encoded;
+use text::refusal::Refusal;
 use text::{bytes, copy};
 
-// The refusal of two texts of a request, each with the most bytes that it may have: 5, then 6; 0 where both are good.
-pub(crate) fn refusal(first: &[u8], most: usize, second: &[u8], limit: usize) -> u8
-    ensures { result ≡ refusal_of (up_to most first.now ∷ up_to limit second.now ∷ []) }
+// Two texts of a request, each with the most bytes that it may have.
+pub(crate) fn check_texts(
+    first: &[u8],
+    most: usize,
+    second: &[u8],
+    limit: usize,
+) -> Result<(), Refusal>
+    ensures { refusal_said result ≡ refusal_of (up_to most first.now ∷ up_to limit second.now ∷ []) }
 {
-    if most < first.len() {
-        return 5;
+    if most < first.len() || limit < second.len() {
+        return Err(Refusal::ArgumentTooLong);
     }
-    if limit < second.len() {
-        return 5;
+    if !bytes::all_within(first, 32, 126) || !bytes::all_within(second, 32, 126) {
+        return Err(Refusal::ArgumentBytes);
     }
-    if !bytes::all_within(first, 32, 126) {
-        return 6;
-    }
-    if !bytes::all_within(second, 32, 126) {
-        return 6;
-    }
-    0
+    Ok(())
 }
 
 // Lays the piece at index `at`, and says where it ends.
@@ -48,10 +48,7 @@ pub(crate) fn lay_byte(x: u8, at: usize, out: &mut [u8]) -> usize
 fn is_marked(x: u8) -> bool
     ensures { result ≡ marked x }
 {
-    if x == 34 {
-        return true;
-    }
-    x == 92
+    x == b'"' || x == b'\\'
 }
 
 // Lays the text with a backslash before each quote and backslash.
@@ -148,11 +145,11 @@ pub(crate) fn lay_decimal(n: u16, at: usize, out: &mut [u8]) -> usize
 }
 
 // Writes a command that is there whole.
-pub(crate) fn plain(command: &[u8], out: &mut [u8]) -> Encoded
+pub(crate) fn plain(command: &[u8], out: &mut [u8]) -> Result<usize, Refusal>
     ensures { LeavesWritten (fitting command.now (length out.old)) out.old (encoded_says result) out.new }
 {
     if out.len() < command.len() {
-        return Encoded::Refused(7);
+        return Err(Refusal::NoRoom);
     }
-    Encoded::Size(lay(command, 0, out))
+    Ok(lay(command, 0, out))
 }

@@ -1,16 +1,17 @@
 -- Bytes laid into a buffer one by one; and what is laid where the buffer has room for all of them. Assumes nothing.
-use Rattle.std.proofs.Common.{◌≡◌, ℕ, ◌+◌, ◌-◌, ◌<◌, ◌≤◌, Bool, true, false, cond, ltb, List, ◌++◌, length, get_or, take, drop, set, sym, refl, ap, ◌∙◌, le_antisymm, add-one, arith, ltb-false, ltb-true, le-ltb, lt-ltb}
-use lib.Seq.{paste, paste-zero, paste-suc, take-length}
+use Rattle.std.proofs.Common.{◌≡◌, ℕ, ◌+◌, ◌-◌, ◌<◌, ◌≤◌, Bool, true, false, cond, ltb, List, ◌++◌, length, take, drop, sym, refl, ap, ◌∙◌, arith, ltb-false, ltb-true, min, drop-drop, append_assoc}
+use lib.Seq.{paste, paste-zero, take-length}
+use borrow.Rule.Slice.PartMut.{put_mid}
 use Rattle.text.specs.Copy.{least, room_for, LayKeeps}
 
 -- the smaller of two
-pub least_first : (a b : ℕ) → a < b → a ≡ least a b
+pub least_is : (a b : ℕ) → least a b ≡ min a b
 unfolding least
-least_first a b h = rw (lt-ltb a b h)
-
-pub least_second : (a b : ℕ) → b ≤ a → b ≡ least a b
-unfolding least
-least_second a b h = rw (le-ltb a b h)
+least_is a b = go (ltb a b) (ltb-true a b) (ltb-false a b)
+  where
+    go : (t : Bool) → (t ≡ true → a < b) → (t ≡ false → b ≤ a) → cond t a b ≡ min a b
+    go true f g = let h = f refl in omega arith
+    go false f g = let h = g refl in omega arith
 
 -- it is at most either: n, which the code has for it
 pub least_le : (a b n : ℕ) → n ≡ least a b → (n ≤ a) × (n ≤ b)
@@ -30,16 +31,16 @@ module _ (piece : List ℕ) (at : ℕ) (b : List ℕ) where
   pub lay_none : length b < at → LayKeeps piece at b at b
   lay_none h = record { ends = rw (room_none h) (omega arith); holds = rw (room_none h) (paste-zero b at piece) }
 
-  module _ (n i : ℕ) (x : List ℕ) (e : x ≡ paste b at piece i) where
-    pub lay_next : i < n → n ≤ length piece → at + n ≤ length b → set x (at + i) (get_or piece i 0) ≡ paste b at piece (i + 1)
-    lay_next h p r =
-        ap (λ (l : List ℕ). set l (at + i) (get_or piece i 0)) e ∙ paste-suc b at piece i 0 (omega arith) (omega arith) ∙ ap (λ (k : ℕ). paste b at piece k) (sym (add-one i))
+  room_is : room_for piece at b ≡ min (length piece) (length b - at)
+  unfolding room_for
+  room_is = least_is (length piece) (length b - at)
 
-    pub lay_end : i ≤ n → n ≤ i → n ≡ least (length piece) (length b - at) → LayKeeps piece at b (at + i) x
-    unfolding room_for
-    lay_end h k room =
-        let z : i ≡ room_for piece at b = le_antisymm h k ∙ room in
-        record { ends = ap (λ (j : ℕ). at + j) z; holds = e ∙ ap (λ (j : ℕ). paste b at piece j) z }
+  -- its first n bytes are in the place of as many
+  pub lay_some : (n : ℕ) (x : List ℕ) → n ≡ min (length piece) (length b - at) → x ≡ take n piece → LayKeeps piece at b (at + n) (put_mid at (at + n - at) b x)
+  lay_some n x e is =
+      let z : at + n - at ≡ n = omega arith in
+      let r : n ≡ room_for piece at b = e ∙ sym room_is in
+      record { ends = ap (λ (k : ℕ). at + k) r; holds = rw (z, drop-drop, is, ← append_assoc) (ap (λ (k : ℕ). take at b ++ take k piece ++ drop (at + k) b) r) }
 
 -- a piece that has room is laid whole
 module _ (piece : List ℕ) (at : ℕ) (b : List ℕ) (e : ℕ) (x : List ℕ) (room : at + length piece ≤ length b) (l : LayKeeps piece at b e x) where

@@ -2,11 +2,21 @@
 use Rattle.std.proofs.Common.{◌≡◌, ℕ, zero, suc, ◌+◌, ◌-◌, ◌<◌, ◌≤◌, Bool, true, false, cond, eqb, ltb, List, [], ◌∷◌, length, drop, sym, refl, ap, ◌∙◌, add-zero, zero-add, add-one, arith, length-drop, length-take-le, take_all, drop-drop, Bor, ltb-false, ltb-true}
 use native.Mathlib.Nat.{sub-zero}
 use lib.Seq.{take-nil}
+use Rattle.std.specs.List.{slice_split, onto_first}
 use Rattle.text.specs.Bytes.{index_of, count_of}
 use Rattle.text.specs.Part.{IsPart, part_of, before, after}
 use Rattle.text.specs.Field.{fronted, fields, nth, place_of}
 use Rattle.text.proofs.AtIndex.{at_end}
 use Rattle.text.proofs.Parts.{index_le, part_shift, from_start, part_as}
+
+-- they are the parts that std's `split` gives
+fronted_is : (x : ℕ) (fs : List (List ℕ)) → fronted x fs ≡ onto_first x fs
+fronted_is x [] = refl
+fronted_is x (f ∷ fs) = refl
+
+pub fields_is : (b : ℕ) (s : List ℕ) → fields b s ≡ slice_split (λ x. eqb x b) s
+fields_is b [] = refl
+fields_is b (x ∷ s) = rw (fields_is b s, fronted_is x (slice_split (λ x. eqb x b) s))
 
 -- the first field ends at the first separator, and the others are those of what follows it; a line without a separator is one field
 module _ (b : ℕ) where

@@ -1,6 +1,7 @@
 -- The steps of a reader: what the code tested, and what it learnt of a call, picks the case of its paper definition. Each premise is spelled
 -- as the code's test or the callee's promise has it, so that `search reader` closes a reader's answers. Assumes nothing.
-use Rattle.std.proofs.Common.{◌≡◌, ℕ, ◌<◌, ◌≤◌, Bool, true, false, cond, not, eqb, leb, List, [], ◌∷◌, length, sym, refl, ap, ◌∙◌, subst, eq-eqb, ne_eqb, eqb-true, le-leb, Result, Ok, Err}
+use Rattle.std.proofs.Common.{◌≡◌, ℕ, ◌<◌, ◌≤◌, Bool, true, false, cond, not, eqb, leb, List, [], ◌∷◌, length, sym, refl, ap, ◌∙◌, subst, eq-eqb, ne_eqb, eqb-true, le-leb, Result, Ok, Err, ok_or}
+use Rattle.std.specs.Prelude as Std
 use mathlib.Core.Option.{Option, none, some}
 use borrow.Author.Tests.{lt-leb, not-true, not-false}
 use Rattle.text.proofs.Tests.{never}
@@ -8,7 +9,7 @@ use Rattle.text.specs.Bytes.{same, has}
 use Rattle.text.specs.Part.{before, after, trimmed}
 use Rattle.text.specs.Field.{fields, nth}
 use Rattle.text.specs.Reading.{Reading, read, refused, refusal_in, present, only, either, need, need_else, sized, fitting, mapped, each, worse, first_of}
-use Rattle.text.specs.says.Refusal.{number_of, reading_said}
+use Rattle.text.specs.says.Refusal.{number_of, option_mapped, reading_said}
 use Rattle.text.specs.declared.refusal.Refusal.{Refusal}
 
 module _ {A : Type 0} where
@@ -94,16 +95,10 @@ module _ {A B : Type 0} where
   unfolding need_else
   need_so k o a f q e p = rw (sym e) p
 
--- what the code has as the answer r of an enum R to a part t, and the paper as h of the same part s: given how f says r, h, a constructor and how
--- that is said
-module _ {R A B : Type 0} (f : R → Option A) (h : List ℕ → Option A) where
-  module _ {W : Type 0} (con : W → R) (val : W → A) (is : (w : W) → f (con w) ≡ some (val w)) where
-    pub got : (t s : List ℕ) (g : A → Reading B) (r : R) (w : W) (q : Reading B) → f r ≡ h t → t ≡ s → r ≡ con w → q ≡ g (val w) → q ≡ need (h s) g
-    got t s g r w q k z e p = need_so 3 (h s) (val w) g q (sym (is w) ∙ ap f (sym e) ∙ k ∙ ap h z) p
-
-  module _ (con : R) (is : f con ≡ none) where
-    pub lacked : (t s : List ℕ) (g : A → Reading B) (r : R) → f r ≡ h t → t ≡ s → r ≡ con → refused 3 ≡ need (h s) g
-    lacked t s g r k z e = need_not 3 (h s) g (sym is ∙ ap f (sym e) ∙ k ∙ ap h z)
+-- a value that is asked for by `ok_or`, where the answer r is what f says on paper
+pub ok_or_some : {V A : Type 0} (f : V → A) (o : Option A) (r : Std.Option V) (e : Refusal) (v : V) → option_mapped f r ≡ o → Ok v ≡ ok_or r e → some (f v) ≡ o
+ok_or_some f o Std.None e v h i = never (cc)
+ok_or_some f o (Std.Some w) e v h i = let j : v ≡ w = cc in ap (λ x. some (f x)) j ∙ h
 
 -- a test on a part that the code has under the name t
 pub same_via : (x : Bool) (t s p : List ℕ) → x ≡ same t p → t ≡ s → x ≡ same s p

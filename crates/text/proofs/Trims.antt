@@ -1,10 +1,12 @@
 -- Bytes that go at the ends of a line. Assumes nothing.
-use Rattle.std.proofs.Common.{◌≡◌, ℕ, suc, ◌+◌, ◌-◌, ◌<◌, ◌≤◌, Bool, true, false, cond, eqb, List, [], ◌∷◌, ◌++◌, length, get_or, take, drop, sym, refl, ap, ◌∙◌, arith, length-drop, length-take, length-take-le, take-suc, Bor, eq-eqb, ne_eqb, eqb-true}
+use Rattle.std.proofs.Common.{◌≡◌, ℕ, suc, ◌+◌, ◌-◌, ◌<◌, ◌≤◌, Bool, true, false, cond, eqb, List, [], ◌∷◌, ◌++◌, length, get_or, take, drop, sym, refl, ap, ◌∙◌, arith, length-drop, length-take, length-take-le, take-suc, Bor, eq-eqb, ne_eqb, eqb-true, not, ◌||◌, ltb, ltb-true, ltb-false, Some, None, unwrap_or, position}
 use mathlib.Core.Bool.{or_self_left}
 use lib.Seq.{take-length}
+use Rattle.std.specs.List.{position_or_len}
+use Rattle.std.proofs.lemmas.List.Sums.{prefix_len-le-length}
+use Rattle.std.proofs.lemmas.List.Recursion.{is_position_or_len}
 use borrow.Author.Tests.{eqb-false}
 use Rattle.text.specs.Part.{IsPart, part_of, among, trim_front, keep, trim_end, trimmed, leading, trim_place}
-use Rattle.text.proofs.AtIndex.{at_next, at_end}
 use Rattle.text.proofs.Parts.{from_start, part_as}
 
 -- a byte that is one of two, and one that is neither
@@ -74,25 +76,23 @@ module _ (s : List ℕ) (a b e : ℕ) (k : e ≤ length s) (inv : trim_end (a �
 pub end_part : (s t : Bor (List ℕ)) (bs : List ℕ) (e : ℕ) → e ≡ length (trim_end bs s.now) → IsPart s t 0 (part_of s.now 0 e) → IsPart s t 0 (trim_end bs s.now)
 end_part s t bs e h = part_as s t 0 0 _ _ refl (from_start s.now e ∙ ap (λ (n : ℕ). take n s.now) h ∙ end_take bs s.now)
 
--- `trim_start`
-module _ (s : List ℕ) (b i : ℕ) (inv : leading (b ∷ []) s ≡ i + leading (b ∷ []) (drop i s)) where
-  pub start_stop : i < length s → (get_or s i 0 ≡ b → ⊥) → i ≡ trim_place (b ∷ []) s
-  unfolding trim_place
-  start_stop h n =
-      let z : leading (b ∷ []) (drop i s) ≡ 0 = rw (at_next s i h, ne_eqb _ _ n) in
-      let y : leading (b ∷ []) s ≡ i = omega arith in
-      rw (y, ne_eqb i (length s) (λ e. omega arith))
+-- `trim_start`: the place of the first byte that stays, as `position` finds it
+leading_is : (b : ℕ) (s : List ℕ) → leading (b ∷ []) s ≡ position_or_len (λ x. not (eqb x b)) s
+leading_is b = is_position_or_len (leading (b ∷ [])) (λ x. not (eqb x b)) refl (λ x s. step (eqb x b) (leading (b ∷ []) s))
+  where
+    step : (t : Bool) (n : ℕ) → cond (t || false) (suc n) 0 ≡ cond (not t) 0 (1 + n)
+    step true n = omega arith
+    step false n = refl
 
-  pub start_more : i < length s → get_or s i 0 ≡ b → leading (b ∷ []) s ≡ (i + 1) + leading (b ∷ []) (drop (i + 1) s)
-  start_more h n =
-      let z : leading (b ∷ []) (drop i s) ≡ suc (leading (b ∷ []) (drop (i + 1) s)) = rw (at_next s i h, eq-eqb _ _ n) in
-      omega arith
-
-  pub start_none : i ≤ length s → length s ≤ i → 0 ≡ trim_place (b ∷ []) s
-  unfolding trim_place
-  start_none l h =
-      let z : leading (b ∷ []) (drop i s) ≡ 0 = rw (at_end s i h) in
-      rw (eq-eqb (leading (b ∷ []) s) (length s) (omega arith))
+pub start_is : (b : ℕ) (s : List ℕ) → unwrap_or (position (λ x. not (eqb x b)) s) 0 ≡ trim_place (b ∷ []) s
+unfolding trim_place
+start_is b s =
+    let k = position_or_len (λ x. not (eqb x b)) s in
+    rw (leading_is b s) (go k (length s) (prefix_len-le-length (λ x. not (not (eqb x b))) s) (ltb k (length s)) refl)
+  where
+    go : (k n : ℕ) → k ≤ n → (t : Bool) → ltb k n ≡ t → unwrap_or (cond t (Some k) None) 0 ≡ cond (eqb k n) 0 k
+    go k n l true h = let m = ltb-true k n h in rw (ne_eqb k n (λ e. omega arith))
+    go k n l false h = let m = ltb-false k n h in rw (eq-eqb k n (omega arith))
 
 -- `trim`: one byte given twice is one byte
 once : (b : ℕ) (s : List ℕ) → trim_end (b ∷ b ∷ []) s ≡ trim_end (b ∷ []) s

@@ -1,13 +1,18 @@
 -- UTF-8: the test goes from character to character, what the lead bytes of the rows ask for, and the bytes that are passed as ASCII; the walk by bytes is Utf8Walk.antt.
-use Rattle.std.proofs.Common.{◌≡◌, ℕ, zero, suc, ◌+◌, ◌-◌, ◌*◌, ◌^◌, ◌<◌, ◌≤◌, Bool, true, false, cond, not, ◌&&◌, ◌||◌, T, eqb, ltb, leb, List, [], ◌∷◌, length, get_or, take, drop, sym, refl, ap, ◌∙◌, subst, add-zero, arith, ltb→lt, length-drop, drop-drop, pow_pos, ltb-false, ltb-true, ne_eqb, le-leb, leb-true}
+use Rattle.std.proofs.Common.{◌≡◌, ℕ, zero, suc, ◌+◌, ◌-◌, ◌*◌, ◌^◌, ◌/◌, ◌<◌, ◌≤◌, Bool, true, false, cond, not, ◌&&◌, ◌||◌, T, eqb, ltb, leb, List, [], ◌∷◌, length, get_or, take, drop, sym, refl, ap, ◌∙◌, subst, add-zero, zero-add, arith, ltb→lt, length-drop, drop-drop, pow_pos, ltb-true, ne_eqb, le-leb, leb-true, leb-false, position, unwrap_or, Option, take_all, get_or-take, get_or-drop, w64, lit<, below_none, below_more}
 use mathlib.Core.Bool.{false≢true, and-false}
 use native.Mathlib.Nat.{eq_of_mul-eq-mul_right}
 use lib.Bits.{bit_and, and_block}
+use Rattle.std.specs.Int.{from_le_bytes, sum_through, byte_worth}
+use Rattle.std.specs.List.{position_or_len}
+use Rattle.std.specs.Simd.{first_chunks}
+use Rattle.std.proofs.lemmas.List.Sums.{prefix_len-le-length, fails_before_first}
 use borrow.Author.Tests.{lt-leb}
 use Rattle.text.specs.Bytes.{within}
 use Rattle.text.specs.Utf8.{Range, rows, fits, size_by, char_size, behind, utf8, AsciiIn}
 use Rattle.text.proofs.AtIndex.{at_next}
 use Rattle.text.proofs.Below.{below}
+use Rattle.text.proofs.Finding.{position_is}
 use Rattle.text.proofs.Tests.{and_left, and_right}
 
 -- what has another length fits no row
@@ -100,52 +105,89 @@ lead_ascii s i h l = ap (size_by rows) (at_next s i h) ∙ led_size 0 0x80 rows 
 pub utf8_ascii : (s : List ℕ) (i : ℕ) → utf8 s ≡ utf8 (drop i s) → i < length s → get_or s i 0 < 0x80 → utf8 s ≡ utf8 (drop (i + 1) s)
 utf8_ascii s i inv h l = inv ∙ utf8_next (drop i s) ∙ ap utf8 (drop-drop (char_size (drop i s)) i s ∙ ap (λ (k : ℕ). drop (i + k) s) (lead_ascii s i h l))
 
--- `ascii_front`
+-- `behind_ascii`
 module _ (s : List ℕ) where
-  ascii_join : (a m n : ℕ) → AsciiIn s a m → AsciiIn s (a + m) n → AsciiIn s a (m + n)
-  ascii_join a m n f g k l h = go (ltb k (a + m)) refl
-    where
-      go : (t : Bool) → ltb k (a + m) ≡ t → get_or s k 0 < 0x80
-      go true e = f k l (ltb-true k (a + m) e)
-      go false e = g k (ltb-false k (a + m) e) (omega arith)
-
-  ascii_one : (a : ℕ) → get_or s a 0 < 0x80 → AsciiIn s a 1
-  ascii_one a h k l e = let z : k ≡ a = omega arith in rw z h
-
-  pub ascii_run : (a n : ℕ) → a + n ≤ length s → utf8 s ≡ utf8 (drop a s) → AsciiIn s a n → utf8 s ≡ utf8 (drop (a + n) s)
+  ascii_run : (a n : ℕ) → a + n ≤ length s → utf8 s ≡ utf8 (drop a s) → AsciiIn s a n → utf8 s ≡ utf8 (drop (a + n) s)
   ascii_run a zero h inv f = rw add-zero inv
   ascii_run a (suc n) h inv f =
       let e : a + suc n ≡ a + n + 1 = omega arith in
       rw e
       (utf8_ascii s (a + n) (ascii_run a n (omega arith) inv (λ k l z. f k l (omega arith))) (omega arith) (f (a + n) (omega arith) (omega arith)))
 
-  -- the last n bytes are ASCII, and all but some of them are passed
-  pub ascii_last : (a n i : ℕ) → a + n ≡ length s → a ≤ i → i ≤ length s → utf8 s ≡ utf8 (drop i s) → AsciiIn s a n → utf8 s ≡ utf8 (drop (length s) s)
-  ascii_last a n i e l h inv f =
-      let z : i + (length s - i) ≡ length s = omega arith in
-      rw z at (ascii_run i (length s - i) (omega arith) inv (λ k p q. f k (omega arith) (omega arith)))
+-- what is left of a text at k, as `&s[k..]` has it
+pub left_at : (s : List ℕ) (k : ℕ) → utf8 s ≡ utf8 (drop k s) → utf8 s ≡ utf8 (take (length s - k) (drop k s))
+left_at s k inv = let l = length-drop k s in let t = take_all (length s - k) (drop k s) (omega arith) in rw t inv
 
--- the bits of a mask m, in both halves of a number
-module _ (k m high low : ℕ) (l : low < 2 ^ k) (n : m < 2 ^ k) (e : bit_and (high * 2 ^ k + low) (m * 2 ^ k + m) ≡ 0) where
-  halves : bit_and high m * 2 ^ k + bit_and low m ≡ 0
-  halves = sym (and_block k high m low m l n) ∙ e
+-- up to the first byte that is not ASCII
+pub ascii_few : (s : List ℕ) (n : ℕ) (o : Option ℕ) → n ≡ unwrap_or o (length s) → o ≡ position (leb 0x80) s → utf8 s ≡ utf8 (take (length s - n) (drop n s))
+ascii_few s n o is e =
+    let k = position_or_len (leb 0x80) s in
+    let z : n ≡ k = is ∙ rw e (position_is (leb 0x80) s) in
+    let run = ascii_run s 0 k (omega (arith, prefix_len-le-length (λ x. not (leb 0x80 x)) s)) refl (λ k l h. leb-false 0x80 (get_or s k 0) (fails_before_first (leb 0x80) s k 0 (omega arith))) in
+    rw z (left_at s k (rw zero-add at run))
 
-  mask_low : bit_and low m ≡ 0
-  mask_low = let h = halves in omega arith
+chunk_at : (n k i : ℕ) (s : List ℕ) → i < k → get_or (first_chunks n k s) i [] ≡ take n (drop (n * i) s)
+chunk_at n zero i s h = absurd (omega arith)
+chunk_at n (suc k) zero s h = let z : n * 0 ≡ 0 = omega arith in rw z
+chunk_at n (suc k) (suc i) s h =
+    let z : n + n * i ≡ n * suc i = omega arith in
+    chunk_at n k i (drop n s) (omega arith) ∙ ap (take n) (drop-drop (n * i) n s ∙ ap (λ (m : ℕ). drop m s) z)
 
-  mask_high : bit_and high m ≡ 0
-  mask_high = let h = halves in eq_of_mul-eq-mul_right (2 ^ k) (pow_pos k) (bit_and high m) 0 (omega arith)
+-- i chunks of eight are passed
+module _ (s : List ℕ) (i : ℕ) (inv : utf8 s ≡ utf8 (drop (8 * i) s)) where
+  pub eight_more : (chunks : List (List ℕ)) → chunks ≡ first_chunks 8 (length s / 8) s → length chunks ≡ length s / 8 → i < length chunks → AsciiIn (get_or chunks i []) 0 8
+      → utf8 s ≡ utf8 (drop (8 * (i + 1)) s)
+  eight_more chunks e l h ascii =
+      let z : 8 * (i + 1) ≡ 8 * i + 8 = omega arith in
+      let c : get_or chunks i [] ≡ take 8 (drop (8 * i) s) = ap (λ (cs : List (List ℕ)). get_or cs i []) e ∙ chunk_at 8 (length s / 8) i s (omega arith) in
+      rw z
+      (ascii_run s (8 * i) 8 (omega arith) inv
+      (λ k m n.
+      let x : 8 * i + (k - 8 * i) ≡ k = omega arith in
+      let y = ascii (k - 8 * i) (omega arith) (omega arith) in
+      let w : get_or (get_or chunks i []) (k - 8 * i) 0 ≡ get_or s k 0 =
+      ap (λ (t : List ℕ). get_or t (k - 8 * i) 0) c ∙ get_or-take 8 (drop (8 * i) s) (k - 8 * i) 0 (omega arith) ∙ get_or-drop (8 * i) s (k - 8 * i) 0 ∙ ap (λ (n : ℕ). get_or s n 0) x in
+      omega arith))
+
+  -- fewer than eight are left, and the last eight are ASCII
+  pub last_eight : (last : List ℕ) → 8 ≤ length s → length s < 8 * i + 8 → 8 * i ≤ length s → last ≡ drop (length s - 8) s → AsciiIn last 0 8
+      → utf8 s ≡ utf8 (take (length s - length s) (drop (length s) s))
+  last_eight last h few room e ascii =
+      let z : 8 * i + (length s - 8 * i) ≡ length s = omega arith in
+      let run = ascii_run s (8 * i) (length s - 8 * i) (omega arith) inv
+      (λ k l m.
+      let x : length s - 8 + (k - (length s - 8)) ≡ k = omega arith in
+      let y = ascii (k - (length s - 8)) (omega arith) (omega arith) in
+      let w : get_or last (k - (length s - 8)) 0 ≡ get_or s k 0 =
+      ap (λ (t : List ℕ). get_or t (k - (length s - 8)) 0) e ∙ get_or-drop (length s - 8) s (k - (length s - 8)) 0 ∙ ap (λ (n : ℕ). get_or s n 0) x in
+      omega arith) in
+      left_at s (length s) (rw z at run)
+
+pub utf8_none : (s : List ℕ) → length s ≡ 0 → utf8 s ≡ true
+unfolding utf8 behind
+utf8_none [] e = refl
+utf8_none (x ∷ s) e = absurd (omega arith)
 
 mask_byte : (x : ℕ) → x < 256 → bit_and x 0x80 ≡ 0 → x < 0x80
 mask_byte x h e = ltb→lt x 0x80 (subst (λ (n : ℕ). T (ltb 0 n || ltb x 0x80)) e (below 256 (λ x. ltb 0 (bit_and x 0x80) || ltb x 0x80) tt x h))
 
--- `two`, `four`, `eight`
-module _ (s : List ℕ) (i : ℕ) where
-  pub ascii_byte : (x : ℕ) → x ≡ get_or s i 0 → x < 256 → bit_and x 0x80 ≡ 0 → AsciiIn s i 1
-  ascii_byte x e l b = ascii_one s i (rw e at (mask_byte x l b))
+-- `are_ascii`: a byte b above j bits
+above : (j low b m : ℕ) → low < 2 ^ j → m < 2 ^ j → b < 256 → bit_and (low + b * 2 ^ j) (0x80 * 2 ^ j + m) ≡ 0 → (bit_and low m ≡ 0) × (b < 0x80)
+above j low b m l n h e =
+    let z : bit_and b 0x80 * 2 ^ j + bit_and low m ≡ 0 = sym (and_block j b 0x80 low m l n) ∙ ap (λ (x : ℕ). bit_and x (0x80 * 2 ^ j + m)) (omega arith) ∙ e in
+    let y : bit_and b 0x80 ≡ 0 = eq_of_mul-eq-mul_right (2 ^ j) (pow_pos j) (bit_and b 0x80) 0 (omega arith) in
+    (omega arith, mask_byte b h y)
 
-  pub ascii_halves : (k m n high low : ℕ) → low < 2 ^ k → m < 2 ^ k
-      → (bit_and low m ≡ 0 → AsciiIn s i n) → (bit_and high m ≡ 0 → AsciiIn s (i + n) n)
-      → bit_and (high * 2 ^ k + low) (m * 2 ^ k + m) ≡ 0 → AsciiIn s i (n + n)
-  ascii_halves k m n high low l h f g e =
-      ascii_join s i n n (f (mask_low k m high low l h e)) (g (mask_high k m high low l h e))
+pub ascii_eight : (s : List ℕ) → ((i : ℕ) → get_or s i 0 < 256) → bit_and (from_le_bytes w64 s) 0x8080808080808080 ≡ 0 → AsciiIn s 0 8
+ascii_eight s fits e =
+    let f = λ (i : ℕ). get_or s i 0 in
+    let low = λ (k : ℕ). sum_through (λ i. byte_worth i (f i)) k in
+    let P : ℕ → Type 0 = λ i. f i < 0x80 in
+    let b7 = above 56 (low 6) (f 7) 0x80808080808080 (omega (arith, fits 0, fits 1, fits 2, fits 3, fits 4, fits 5, fits 6)) (lit< tt) (fits 7) e in
+    let b6 = above 48 (low 5) (f 6) 0x808080808080 (omega (arith, fits 0, fits 1, fits 2, fits 3, fits 4, fits 5)) (lit< tt) (fits 6) b7.0 in
+    let b5 = above 40 (low 4) (f 5) 0x8080808080 (omega (arith, fits 0, fits 1, fits 2, fits 3, fits 4)) (lit< tt) (fits 5) b6.0 in
+    let b4 = above 32 (low 3) (f 4) 0x80808080 (omega (arith, fits 0, fits 1, fits 2, fits 3)) (lit< tt) (fits 4) b5.0 in
+    let b3 = above 24 (low 2) (f 3) 0x808080 (omega (arith, fits 0, fits 1, fits 2)) (lit< tt) (fits 3) b4.0 in
+    let b2 = above 16 (low 1) (f 2) 0x8080 (omega (arith, fits 0, fits 1)) (lit< tt) (fits 2) b3.0 in
+    let b1 = above 8 (low 0) (f 1) 0x80 (omega (arith, fits 0)) (lit< tt) (fits 1) b2.0 in
+    λ k l h. (below_more P 7 (below_more P 6 (below_more P 5 (below_more P 4 (below_more P 3 (below_more P 2 (below_more P 1 (below_more P 0 (below_none P) (mask_byte (f 0) (fits 0) b1.0)) b1.1) b2.1) b3.1) b4.1) b5.1) b6.1) b7.1) k h

@@ -1,7 +1,7 @@
 -- A walk over the bytes of a text from state to state tells whether it is UTF-8. Assumes nothing.
-use Rattle.std.proofs.Common.{◌≡◌, ℕ, zero, suc, ◌+◌, ◌-◌, ◌*◌, ◌/◌, ◌^◌, ◌<◌, ◌≤◌, Bool, true, false, cond, ◌&&◌, eqb, ltb, leb, List, [], ◌∷◌, length, get_or, take, drop, sym, refl, ap, ◌∙◌, arith, eqb→eq, ltb→lt, w64, Fits, leb-false, leb-true}
+use Rattle.std.proofs.Common.{◌≡◌, ℕ, zero, suc, ◌+◌, ◌-◌, ◌*◌, ◌/◌, ◌^◌, ◌<◌, ◌≤◌, Bool, true, false, cond, ◌&&◌, eqb, ltb, leb, List, [], ◌∷◌, length, get_or, take, drop, sym, refl, ap, ◌∙◌, arith, eqb→eq, ltb→lt, leb-false, leb-true}
 use mathlib.Core.Bool.{and-false}
-use lib.Bits.{bit_and, and_le_r}
+use lib.Bits.{bit_and}
 use borrow.Author.Tests.{lt-leb}
 use Rattle.text.specs.Bytes.{within}
 use Rattle.text.specs.Utf8.{Range, to, tail, rows, fits, char_size, behind, utf8}
@@ -192,12 +192,6 @@ module _ (x n : ℕ) (h : x < 256) (is : n ≡ letter x) where
   pub letter_few : n - 97 < 12
   letter_few = omega (arith, few)
 
-  pub letter_fits : Fits w64 (n - 97)
-  letter_fits = record { fits = omega (arith, few) }
-
-  pub letter_offset : Fits w64 ((n - 97) * 8)
-  letter_offset = record { fits = omega (arith, few) }
-
 -- the rows of the kinds, each by a byte that is of it
 abbrev pub kind_rows : List ℕ
 kind_rows = row 0x00 ∷ row 0x80 ∷ row 0x90 ∷ row 0xA0 ∷ row 0xC2 ∷ row 0xE0 ∷ row 0xE1 ∷ row 0xED ∷ row 0xF0 ∷ row 0xF1 ∷ row 0xF4 ∷ row 0xC0 ∷ []
@@ -212,15 +206,8 @@ pub record At (s : List ℕ) (n i : ℕ) : Type 0 where
   pub is : bit_and n 63 ≡ number state
   pub rest : utf8 s ≡ goes_on state (drop i s)
 
-pub utf8_end : (s : List ℕ) (i : ℕ) → utf8 s ≡ utf8 (drop i s) → length s ≤ i → true ≡ utf8 s
-unfolding utf8 behind
-utf8_end s i inv h = sym (inv ∙ ap utf8 (at_end s i h))
-
-pub at_begin : (s : List ℕ) (i : ℕ) → utf8 s ≡ utf8 (drop i s) → At s 0 i
-at_begin s i h = record { state = start; is = refl; rest = h }
-
-pub small : (n : ℕ) → bit_and n 63 < 64
-small n = omega (arith, and_le_r n 63)
+pub at_begin : (s : List ℕ) → At s 0 0
+at_begin s = record { state = start; is = refl; rest = refl }
 
 module _ (s : List ℕ) (n i : ℕ) (a : At s n i) where
   pub at_more : (x m : ℕ) → i < length s → x ≡ get_or s i 0 → x < 256 → m ≡ letter x → At s (get_or kind_rows (m - 97) 0 / 2 ^ bit_and n 63) (i + 1)

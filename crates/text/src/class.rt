@@ -1,4 +1,5 @@
 // The classes of bytes, from one table of all 256: digit, hexadecimal letter, quote, comma, other.
+// They go by number, since document 02 wants a constant table of bytes: CR 6.
 ghost use Rattle.text.specs.says.Class.{ClassesKeep};
 
 pub const DIGIT: u8 = 0;

@@ -1,4 +1,5 @@
-// A decimal digit, told in one way and in this file alone: 48 is subtracted, wrapping, and what is left is below ten. It is then the digit's value.
+// A decimal digit, told in one way and in this file alone: 48 is subtracted, wrapping, and what is
+// left is below ten. It is then the digit's value.
 ghost use Rattle.text.specs.Digit.{is_digit, above_zero};
 ghost use Rattle.text.specs.Gives.{Gives};
 

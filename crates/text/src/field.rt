@@ -6,19 +6,18 @@ ghost use Rattle.text.specs.Gives.{Gives};
 
 use crate::{bytes, part};
 
-// Where field n of s begins, counted from 0, where b parts the fields; one past the end where there is none.
+// Where field n of s begins, counted from 0, where b parts the fields; one past the end where there
+// is none.
 pub fn field_start(s: &[u8], b: u8, n: usize) -> usize
     ensures { Gives (place_of n (fields b s.now)) result }
 {
     let mut at = 0;
-    let mut k = 0;
-    while k < n {
+    for _k in 0..n {
         let e = bytes::find(s, at, b);
         if s.len() <= e {
             return s.len() + 1;
         }
         at = e + 1;
-        k += 1;
     }
     at
 }

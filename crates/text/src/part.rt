@@ -13,7 +13,8 @@ pub struct Place {
     pub end: usize,
 }
 
-// The bytes from a up to e: an end past the length is the length, and a start past the end gives none.
+// The bytes from a up to e: an end past the length is the length, and a start past the end gives
+// none.
 pub fn part(s: &[u8], a: usize, e: usize) -> &[u8]
     ensures { IsPart s.entry result a (part_of s.now a e) }
 {
@@ -55,16 +56,9 @@ pub fn after_byte(s: &[u8], b: u8) -> &[u8]
 fn end_of(s: &[u8], a: u8, b: u8) -> usize
     ensures { result ≡ length (trim_end (a ∷ b ∷ []) s.now) }
 {
-    let mut e = s.len();
-    while 0 < e {
-        let x = s[e - 1];
-        if x == a {
-            e -= 1;
-        } else {
-            if x != b {
-                return e;
-            }
-            e -= 1;
+    for i in (0..s.len()).rev() {
+        if s[i] != a && s[i] != b {
+            return i + 1;
         }
     }
     0
@@ -81,14 +75,7 @@ pub fn trim_end(s: &[u8], a: u8, b: u8) -> &[u8]
 pub fn trim_start(s: &[u8], b: u8) -> usize
     ensures { Gives (trim_place (b ∷ []) s.now) result }
 {
-    let mut i = 0;
-    while i < s.len() {
-        if s[i] != b {
-            return i;
-        }
-        i += 1;
-    }
-    0
+    s.iter().position(|x| *x != b).unwrap_or(0)
 }
 
 // s without the bs at both ends.

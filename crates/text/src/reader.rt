@@ -1,4 +1,5 @@
-// A reader of fields that stands on the lent line. The calls on it are thin: what they do is done by functions of a line and a position.
+// A reader of fields that stands on the lent line. The calls on it are thin: what they do is done
+// by functions of a line and a position.
 ghost use Rattle.text.specs.Gives.{Gives};
 ghost use Rattle.text.specs.Part.{IsPart};
 ghost use Rattle.text.specs.Field.{fields, nth, place_of};
@@ -39,8 +40,8 @@ fn ended_at(s: &[u8], at: usize) -> bool
     s.len() < at
 }
 
-// Where the fields from a position on begin, one past the end where there is none. One pass, and no branch on the bytes: each is stored as a
-// separator's, and counted if it is one.
+// Where the fields from a position on begin, one past the end where there is none. One pass, and no
+// branch on the bytes: each is stored as a separator's, and counted if it is one.
 fn starts_at(s: &[u8], at: usize) -> [usize; 22]
     ensures { Starts s.now at result }
 {
@@ -48,14 +49,12 @@ fn starts_at(s: &[u8], at: usize) -> [usize; 22]
     let mut places = [past; 22];
     places[0] = at;
     let mut k = 1;
-    let mut i = at;
-    while i < s.len() {
+    for i in at..s.len() {
         if 22 <= k {
             return places;
         }
         places[k] = i + 1;
-        k += (s[i] == b',') as usize;
-        i += 1;
+        k += usize::from(s[i] == b',');
     }
     if k < 22 {
         places[k] = past;
@@ -111,18 +110,17 @@ pub fn field_starts(line: &[u8]) -> [usize; 22]
     FieldReader::new(line).starts()
 }
 
-// Field n of a line, counted from 0; empty past the last.
+// Field n of a line, counted from 0; empty past the last. Document 01 wants the fields of a line
+// from a reader; `field::field` goes without one, at any separator.
 pub fn nth_field(line: &[u8], n: usize) -> &[u8]
     ensures { IsPart line.entry result (place_of n (fields 44 line.now)) (nth n (fields 44 line.now)) }
 {
     let mut r = FieldReader::new(line);
-    let mut k = 0;
-    while k < n {
+    for _k in 0..n {
         if r.ended() {
             break;
         }
         r = r.next();
-        k += 1;
     }
     r.field()
 }

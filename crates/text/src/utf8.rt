@@ -1,20 +1,15 @@
 // UTF-8: what is not ASCII goes by a table of states, proved from the rows of RFC 3629, section 4.
-ghost use Rattle.std.specs.Prelude.{◌≡◌, ◌+◌, ◌<◌, ◌≤◌, length, drop, bit_and};
+ghost use Rattle.std.specs.Prelude.{◌≡◌, IsTrue};
 ghost use Rattle.text.specs.Gives.{Gives};
 ghost use Rattle.text.specs.Utf8.{utf8, AsciiIn};
 
-fn place(x: u8) -> usize
-    ensures { (result ≡ x) × (result < 0x100) }
-{
-    x as usize
-}
-
-// Whether s, which is UTF-8 where what stands from a on is, is UTF-8. No branch on the bytes: nine states by what must follow, which are nothing (0), one, two or three
-// UTF8-tails (6, 12, 18), what E0, ED, F0 and F4 want (24, 30, 36, 42), and what no text has (48). Bytes that every state takes alike are of one kind, a letter. A kind's
-// row has the state behind it for each state before it, six bits at that state's number, so a shift finds it: two octal digits to a state, the first state last. The
-// compiler lays both tables on the stack at each call: it is not called where all is passed.
-fn all_chars(s: &[u8], a: usize) -> bool
-    requires { utf8 s.now ≡ utf8 (drop a s.now) }
+// Whether s is UTF-8. No branch on the bytes: nine states by what must follow, which are nothing
+// (0), one, two or three UTF8-tails (6, 12, 18), what E0, ED, F0 and F4 want (24, 30, 36, 42), and
+// what no text has (48). Bytes that every state takes alike are of one kind, a letter. A kind's row
+// has the state behind it for each state before it, six bits at that state's number, so a shift
+// finds it: two octal digits to a state, the first state last. The compiler lays both tables on the
+// stack at each call: it is not called where all is passed.
+fn all_chars(s: &[u8]) -> bool
     ensures { result ≡ utf8 s.now }
 {
     let kinds =
@@ -34,85 +29,45 @@ fn all_chars(s: &[u8], a: usize) -> bool
         0o606060606060606060,
     ];
     let mut state = 0;
-    let mut i = a;
-    while i < s.len() {
-        let letter = kinds[place(s[i])];
-        state = rows[(letter - b'a') as usize] >> (state & 63);
-        i += 1;
+    for x in s {
+        let letter = kinds[usize::from(*x)];
+        state = rows[usize::from(letter - b'a')] >> (state & 63);
     }
     state & 63 == 0
 }
 
-fn wide(x: u8) -> u64
-    ensures { (result ≡ x) × (result < 0x100) }
+// Whether eight bytes are all ASCII: none has the bit 0x80. The compiler makes one load of them.
+fn are_ascii(eight: &[u8; 8]) -> bool
+    ensures { IsTrue result → AsciiIn eight.now 0 8 }
 {
-    x as u64
+    u64::from_le_bytes(*eight) & 0x8080_8080_8080_8080 == 0
 }
 
-// Two, four and eight bytes as one number, the first the lowest: the compiler makes one load of them. Their bits of 0x80 tell whether all are ASCII.
-fn two(s: &[u8], i: usize) -> u64
-    requires { i + 2 ≤ length s.now }
-    ensures { (result < 0x10000) × (bit_and result 0x8080 ≡ 0 → AsciiIn s.now i 2) }
+// What is left of s where ASCII bytes are passed, eight at a time, up to the first eight that are
+// not all ASCII. The last eight may lie over some that are passed.
+fn behind_ascii(s: &[u8]) -> &[u8]
+    ensures { utf8 s.now ≡ utf8 result.now }
 {
-    wide(s[i + 1]) * 0x100 + wide(s[i])
-}
-
-fn four(s: &[u8], i: usize) -> u64
-    requires { i + 4 ≤ length s.now }
-    ensures { (result < 0x100000000) × (bit_and result 0x80808080 ≡ 0 → AsciiIn s.now i 4) }
-{
-    two(s, i + 2) * 0x10000 + two(s, i)
-}
-
-fn eight(s: &[u8], i: usize) -> u64
-    requires { i + 8 ≤ length s.now }
-    ensures { bit_and result 0x8080808080808080 ≡ 0 → AsciiIn s.now i 8 }
-{
-    four(s, i + 4) * 0x100000000 + four(s, i)
-}
-
-// How many ASCII bytes a short text begins with.
-fn ascii_few(s: &[u8]) -> usize
-    ensures { utf8 s.now ≡ utf8 (drop result s.now) }
-{
-    let mut i = 0;
-    while i < s.len() {
-        if 0x80 <= s[i] {
-            return i;
+    let Some(last) = s.last_chunk() else {
+        let few = s.iter().position(|x| 0x80 <= *x).unwrap_or(s.len());
+        return &s[few..];
+    };
+    let (chunks, _) = s.as_chunks();
+    for (i, eight) in chunks.iter().enumerate() {
+        if !are_ascii(eight) {
+            return &s[8 * i..];
         }
-        i += 1;
     }
-    i
-}
-
-// How many bytes are passed, eight at a time, up to the first eight that are not all ASCII. The last eight may lie over some that are passed.
-fn ascii_front(s: &[u8]) -> usize
-    ensures { utf8 s.now ≡ utf8 (drop result s.now) }
-{
-    if s.len() < 8 {
-        return ascii_few(s);
+    if are_ascii(last) {
+        return &s[s.len()..];
     }
-    let last = s.len() - 8;
-    let mut i = 0;
-    while i <= last {
-        if eight(s, i) & 0x8080808080808080 != 0 {
-            return i;
-        }
-        i += 8;
-    }
-    if eight(s, last) & 0x8080808080808080 != 0 {
-        return i;
-    }
-    s.len()
+    &s[8 * chunks.len()..]
 }
 
 // Whether s is UTF-8. Most lines are ASCII.
 pub fn is_utf8(s: &[u8]) -> bool
     ensures { Gives (utf8 s.now) result }
 {
-    let a = ascii_front(s);
-    if s.len() <= a {
-        return true;
-    }
-    all_chars(s, a)
+    let rest = behind_ascii(s);
+    rest.is_empty() || all_chars(rest)
 }

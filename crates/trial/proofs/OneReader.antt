@@ -1,4 +1,5 @@
 -- The second engine: what the one reader says that could take the line is what the trial says, in either trial and in both, refusals included.
+use Rattle.std.specs.Prelude.{Result, Ok, Err}
 use Prim.Native.Nat.{ℕ, zero, suc, ◌+◌, ◌-◌, ◌≤◌, ◌<◌}
 use mathlib.Core.Path.{◌≡◌, refl, ap, sym, ◌∙◌, subst}
 use mathlib.Core.Bool.{Bool, true, false, cond}
@@ -6,6 +7,7 @@ use mathlib.Core.List.{List, [], ◌∷◌}
 use native.Mathlib.Omega.{arith}
 use lib.Dec.{eqb}
 use borrow.Author.Tests.{ne_eqb, eqb-true, eqb-false, lt-ltb, le-ltb}
+use Rattle.text.specs.declared.refusal.Refusal.{Refusal}
 use Rattle.text.specs.Condition.{Points, nth_reading}
 use Rattle.text.specs.Line.{line_check, checked, refusal_by}
 use Rattle.text.specs.Reading.{Reading, read, refused, mapped, each, refusal_in}
@@ -16,16 +18,12 @@ use Rattle.at_command.specs.Response.{Response, ok, error, prompt, close_ok, icc
 use Rattle.at_command.specs.says.Response.{ResponseAtKeeps}
 use Rattle.at_command.specs.says.Response.{says as response_says}
 use Rattle.at_command.specs.declared.ResponseCode.{ResponseCode}
-use Rattle.at_command.specs.declared.ResponseCodeAnswer.{ResponseCodeAnswer}
-use Rattle.at_command.specs.declared.ResponseCodeAnswer.TheVariants as R
 use Rattle.at_command.proofs.Conditions.{responses_asked}
 use Rattle.unsolicited.specs.Conditions.{urc_conditions}
 use Rattle.unsolicited.specs.Urc.{Unsolicited, gnss, registration, urc_readings, urc_text, urc_reading_at}
 use Rattle.unsolicited.specs.says.Urc.{UrcAtKeeps}
 use Rattle.unsolicited.specs.says.Urc.{says as urc_answer_says}
 use Rattle.unsolicited.specs.declared.Urc.{Urc}
-use Rattle.unsolicited.specs.declared.UrcAnswer.{UrcAnswer}
-use Rattle.unsolicited.specs.declared.UrcAnswer.TheVariants as U
 use Rattle.unsolicited.proofs.Conditions.{urcs_asked}
 use Rattle.trial.specs.Answer.{Said, response, unsolicited, all_readings, said_text, line_said}
 use Rattle.trial.specs.Conditions.{all_conditions, ConditionsAsked, StraightAgrees}
@@ -108,10 +106,10 @@ module _ (l : List ℕ) (row : ℕ) (p : Points all_conditions l row) where
   urc_not h = urc_behind no_row (urc_none l row p h)
 
   -- both trials
-  both_response : row < 13 → checked said_text l ≡ mapped response (checked (reading_at row) l)
+  pub both_response : row < 13 → checked said_text l ≡ mapped response (checked (reading_at row) l)
   both_response h = behind l said_text response response_text (said_response l row p h) ∙ ap (mapped response) (sym response_at)
 
-  both_urc : 13 ≤ row → checked said_text l ≡ mapped unsolicited (checked (urc_reading_at (row - 13)) l)
+  pub both_urc : 13 ≤ row → checked said_text l ≡ mapped unsolicited (checked (urc_reading_at (row - 13)) l)
   both_urc h = behind l said_text unsolicited urc_text (said_urc l row p h) ∙ ap (mapped unsolicited) (sym (urc_at h))
 
   -- with the value forgotten
@@ -121,24 +119,15 @@ module _ (l : List ℕ) (row : ℕ) (p : Points all_conditions l row) where
   pub refusal_urc : 13 ≤ row → refusal_by (urc_reading_at (row - 13)) l ≡ refusal_by said_text l
   refusal_urc h = refusal_as unsolicited (checked (urc_reading_at (row - 13)) l) ∙ ap refusal_in (sym (both_urc h))
 
-  -- both together, by the cases of the answer
-  module _ (h : row < 13) (r : ResponseCodeAnswer) (k : ResponseAtKeeps row l r) where
-    pub line_response : (v : ResponseCode) → r ≡ R.Value v → LineKeeps l (L.Response v)
-    unfolding mapped line_said
-    line_response v e = ap (mapped response) (ap response_says (sym e) ∙ k) ∙ sym (both_response h)
+-- and so the answer of that reader, under another name
+module _ (l : List ℕ) (row : ℕ) (p : Points all_conditions l row) where
+  pub line_as_response : (x : Reading Response) → row < 13 → x ≡ checked (reading_at row) l → mapped response x ≡ line_said l
+  unfolding line_said
+  line_as_response x h e = ap (mapped response) e ∙ sym (both_response l row p h)
 
-    pub line_not_response : (n : ℕ) → r ≡ R.Refused n → LineKeeps l (L.Refused n)
-    unfolding mapped line_said
-    line_not_response n e = ap (mapped response) (ap response_says (sym e) ∙ k) ∙ sym (both_response h)
-
-  module _ (h : 13 ≤ row) (r : UrcAnswer) (k : UrcAtKeeps (row - 13) l r) where
-    pub line_urc : (v : Urc) → r ≡ U.Value v → LineKeeps l (L.Unsolicited v)
-    unfolding mapped line_said
-    line_urc v e = ap (mapped unsolicited) (ap urc_answer_says (sym e) ∙ k) ∙ sym (both_urc h)
-
-    pub line_not_urc : (n : ℕ) → r ≡ U.Refused n → LineKeeps l (L.Refused n)
-    unfolding mapped line_said
-    line_not_urc n e = ap (mapped unsolicited) (ap urc_answer_says (sym e) ∙ k) ∙ sym (both_urc h)
+  pub line_as_urc : (x : Reading Unsolicited) → 13 ≤ row → x ≡ checked (urc_reading_at (row - 13)) l → mapped unsolicited x ≡ line_said l
+  unfolding line_said
+  line_as_urc x h e = ap (mapped unsolicited) e ∙ sym (both_urc l row p h)
 
 -- ---- which reader takes the line
 
@@ -225,9 +214,9 @@ module _ (l : List ℕ) where
       go (read s) f = absurd (n f)
       go (refused j) f = ap refused f
 
-  pub taker_taken : (row : ℕ) → Points all_conditions l row → (k : ℕ) → k ≡ refusal_by said_text l → k ≡ 0 → read (taker_at row) ≡ line_taker l
+  pub taker_taken : (row : ℕ) → Points all_conditions l row → 0 ≡ refusal_by said_text l → read (taker_at row) ≡ line_taker l
   unfolding line_taker line_said checked mapped
-  taker_taken row p k e z = go (eqb (line_check l) 0) (eqb-true (line_check l) 0) (eqb-false (line_check l) 0) (sym e ∙ z)
+  taker_taken row p e = go (eqb (line_check l) 0) (eqb-true (line_check l) 0) (eqb-false (line_check l) 0) (sym e)
     where
       taken : (x : Reading Said) → mapped taker_of x ≡ mapped (λ (s : Said). taker_at row) x → x ≡ said_text l → line_check l ≡ 0 → refusal_in x ≡ 0 → read (taker_at row) ≡ mapped taker_of x
       taken (read s) f g c h = sym f
@@ -239,13 +228,13 @@ module _ (l : List ℕ) where
 
 -- the reader of a row, as the code asks for it
 module _ (row : ℕ) where
-  pub taker_response : (k : Kind) → row < 13 → k ≡ kind_at row → read (T.response k) ≡ read (taker_at row)
+  pub taker_response : (k : Kind) → row < 13 → k ≡ kind_at row → T.response k ≡ taker_at row
   taker_response k h e = rw (lt-ltb row 13 h, e)
 
-  pub taker_gnss : row ≡ 13 → read T.gnss ≡ read (taker_at row)
+  pub taker_gnss : row ≡ 13 → T.gnss ≡ taker_at row
   taker_gnss e = rw e
 
-  pub taker_registration : 13 ≤ row → (row ≡ 13 → ⊥) → read T.registration ≡ read (taker_at row)
+  pub taker_registration : 13 ≤ row → (row ≡ 13 → ⊥) → T.registration ≡ taker_at row
   taker_registration h n = rw (le-ltb row 13 h, ne_eqb row 13 n)
 
 -- and what the line is to a desk

@@ -1,9 +1,11 @@
 -- Both trials in turn, as one list, are the one trial that the line's front chooses.
+use Rattle.std.specs.Prelude.{Result, Ok, Err}
 use Prim.Native.Nat.{ℕ}
 use mathlib.Core.Path.{◌≡◌, refl, sym, ap, ◌∙◌}
 use mathlib.Core.Bool.{Bool, true, false, cond}
 use mathlib.Core.List.{List, [], ◌∷◌, ◌++◌}
 use lib.Dec.{eqb}
+use Rattle.text.specs.declared.refusal.Refusal.{Refusal}
 use Rattle.text.specs.Line.{line_check, checked}
 use Rattle.text.specs.Reading.{Reading, read, refused, mapped, each, first_of, worse}
 use Rattle.text.proofs.Readings.{first_each}
@@ -12,13 +14,9 @@ use Rattle.unsolicited.specs.Urc.{Unsolicited, urc_readings, urc_text, begins}
 use Rattle.at_command.specs.says.Response.{ResponseCodeKeeps}
 use Rattle.at_command.specs.says.Response.{says as response_says}
 use Rattle.at_command.specs.declared.ResponseCode.{ResponseCode}
-use Rattle.at_command.specs.declared.ResponseCodeAnswer.{ResponseCodeAnswer}
-use Rattle.at_command.specs.declared.ResponseCodeAnswer.TheVariants as R
 use Rattle.unsolicited.specs.says.Urc.{UrcKeeps}
 use Rattle.unsolicited.specs.says.Urc.{says as urc_answer_says}
 use Rattle.unsolicited.specs.declared.Urc.{Urc}
-use Rattle.unsolicited.specs.declared.UrcAnswer.{UrcAnswer}
-use Rattle.unsolicited.specs.declared.UrcAnswer.TheVariants as U
 use Rattle.trial.specs.says.Line.{LineKeeps}
 use Rattle.trial.specs.declared.Line.TheVariants as L
 use Rattle.trial.specs.Answer.{Said, response, unsolicited, all_readings, said_text, line_said}
@@ -79,20 +77,3 @@ module _ (l : List ℕ) where
     pub said_other : t ≡ false → {r : Reading Response} → r ≡ checked response_text l → mapped response r ≡ line_said l
     unfolding line_said
     said_other h e = ap (mapped response) e ∙ sym (behind said_text response response_text (text_other (sym is ∙ h)))
-
-    -- and by the cases of that answer
-    pub line_urc : t ≡ true → (r : UrcAnswer) → UrcKeeps l r → (u : Urc) → r ≡ U.Value u → LineKeeps l (L.Unsolicited u)
-    unfolding mapped
-    line_urc h r k u e = said_begun h (ap urc_answer_says (sym e) ∙ k)
-
-    pub line_not_urc : t ≡ true → (r : UrcAnswer) → UrcKeeps l r → (n : ℕ) → r ≡ U.Refused n → LineKeeps l (L.Refused n)
-    unfolding mapped
-    line_not_urc h r k n e = said_begun h (ap urc_answer_says (sym e) ∙ k)
-
-    pub line_response : t ≡ false → (r : ResponseCodeAnswer) → ResponseCodeKeeps l r → (c : ResponseCode) → r ≡ R.Value c → LineKeeps l (L.Response c)
-    unfolding mapped
-    line_response h r k c e = said_other h (ap response_says (sym e) ∙ k)
-
-    pub line_not_response : t ≡ false → (r : ResponseCodeAnswer) → ResponseCodeKeeps l r → (n : ℕ) → r ≡ R.Refused n → LineKeeps l (L.Refused n)
-    unfolding mapped
-    line_not_response h r k n e = said_other h (ap response_says (sym e) ∙ k)

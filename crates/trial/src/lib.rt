@@ -7,22 +7,21 @@ pub mod straight;
 
 ghost use Rattle.trial.specs.says.Line.{LineKeeps, SortedKeeps, SortKeeps};
 
+use at_command::ResponseCode;
 use at_command::request::ResponseKind;
-use at_command::{ResponseCode, ResponseCodeAnswer};
-use unsolicited::{Urc, UrcAnswer};
+use text::refusal::Refusal;
+use unsolicited::Urc;
 
 // What a line says.
 #[derive(Clone, Copy)]
 pub enum Line {
     Response(ResponseCode),
     Unsolicited(Urc),
-    Refused(u8),
 }
 
 // What a line is to a desk.
 #[derive(Clone, Copy)]
 pub enum Sort {
-    Refused(u8),
     Response(ResponseKind),
     Unsolicited,
 }
@@ -30,7 +29,6 @@ pub enum Sort {
 // Which reader takes a line: a response's kind, or one of the two unsolicited ones.
 #[derive(Clone, Copy)]
 pub enum Taker {
-    Refused(u8),
     Response(ResponseKind),
     GnssReport,
     NetworkRegistration,
@@ -38,40 +36,27 @@ pub enum Taker {
 
 impl Line {
     // No response begins as an unsolicited line does, so one of the two trials alone is asked.
-    pub fn from_line(line: &[u8]) -> Line
+    pub fn from_line(line: &[u8]) -> Result<Line, Refusal>
         ensures { LineKeeps line.now result }
     {
         if Urc::begins(line) {
-            let urc = Urc::from_line(line);
-            return match urc {
-                UrcAnswer::Value(u) => Line::Unsolicited(u),
-                UrcAnswer::Refused(k) => Line::Refused(k),
-            };
+            return Ok(Line::Unsolicited(Urc::from_line(line)?));
         }
-        let response = ResponseCode::from_line(line);
-        match response {
-            ResponseCodeAnswer::Value(code) => Line::Response(code),
-            ResponseCodeAnswer::Refused(k) => Line::Refused(k),
-        }
+        Ok(Line::Response(ResponseCode::from_line(line)?))
     }
 
     pub fn sort(self) -> Sort
         ensures { SortedKeeps self result }
     {
         match self {
-            Line::Response(code) => {
-                let kind = code.kind();
-                Sort::Response(kind)
-            }
+            Line::Response(code) => Sort::Response(code.kind()),
             Line::Unsolicited(_) => Sort::Unsolicited,
-            Line::Refused(k) => Sort::Refused(k),
         }
     }
 }
 
-pub fn sort_of(line: &[u8]) -> Sort
+pub fn sort_of(line: &[u8]) -> Result<Sort, Refusal>
     ensures { SortKeeps line.now result }
 {
-    let said = Line::from_line(line);
-    said.sort()
+    Ok(Line::from_line(line)?.sort())
 }

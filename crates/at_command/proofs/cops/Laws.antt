@@ -1,5 +1,5 @@
 -- The field or the fallback text. Assumes nothing.
-use mathlib.Core.Path.{◌≡◌, ap, ◌∙◌, subst}
+use mathlib.Core.Path.{◌≡◌, refl, ap, ◌∙◌, subst}
 use mathlib.Core.List.{List, [], ◌∷◌}
 use Prim.Native.Nat.{ℕ, ◌+◌, ◌≤◌, ◌<◌}
 use native.Mathlib.Nat.{zero-add}
@@ -10,6 +10,11 @@ use Rattle.text.specs.Part.{IsPart, Span, trimmed, trim_place}
 use Rattle.text.specs.Field.{fields, nth, place_of}
 use Rattle.text.specs.Reading.{Reading, read}
 use Rattle.text.proofs.Trims.{trim_in}
+use Rattle.text.specs.says.Handed.{at_says}
+use Rattle.text.specs.declared.handed.TextAt.{TextAt}
+use Rattle.text.specs.declared.handed.TextAt.TheVariants.{InLine, InFallback}
+use Rattle.at_command.specs.Handed.{name_in}
+use Rattle.at_command.specs.says.Cops.{name_says}
 use Rattle.at_command.specs.Unquoted.{unquoted_field}
 use Rattle.at_command.specs.Cops.{FieldOr, field_or, Name, in_line, in_fallback, name_of, Operator}
 
@@ -53,3 +58,14 @@ operator m f x y e = rw e
 
 pub left_fits : (a : ℕ) (u fallback : List ℕ) → a ≡ trim_place (34 ∷ []) fallback → u ≡ trimmed (34 ∷ []) fallback → a + length u ≤ length fallback
 left_fits a u fallback e h = rw (e, h) (trim_in (34 ∷ []) fallback)
+
+-- the place that is cut out
+pub name_cut : (at : TextAt) → at_says at ≡ name_in (name_says at)
+unfolding name_in
+name_cut (InLine p) = refl
+name_cut (InFallback p) = refl
+
+pub name_good : (n : Name) → 0 ≡ (name_in n).refusal
+unfolding name_in
+name_good (in_line p) = refl
+name_good (in_fallback p) = refl

@@ -1,8 +1,8 @@
 -- What the code forms at each rssi from 0 to 31, by a test over all of them; the table of rates; and what a code tells.
-use mathlib.Core.Path.{◌≡◌, refl, ap, sym, ◌∙◌}
+use mathlib.Core.Path.{◌≡◌, refl}
 use mathlib.Core.Bool.{Bool, true, cond}
 use mathlib.Core.List.{List, [], ◌∷◌}
-use mathlib.Core.Option.{Option, none, some}
+use mathlib.Core.Option.{none, some}
 use Prim.Native.Nat.{ℕ, ◌≤◌, ◌<◌, suc-le-suc}
 use native.Mathlib.Omega.{arith}
 use lib.Dec.{T, leb}
@@ -12,14 +12,8 @@ use lib.Ieee.{Float, nan, binary32, of_int, of_bits, round, sub, in_float}
 use mir.Syntax.{w32}
 use mir.Val.{SFits, to_z, of_z}
 use borrow.Author.Tests.{le-leb, lt-leb, eq-eqb, ne_eqb}
-use Rattle.text.specs.Reading.{Reading, refused, need}
 use Rattle.text.proofs.Below.{every_below, below, entry, sfitsb, sfits, eqz, eqz→eq}
-use Rattle.text.proofs.Readings.{need_so, need_not}
 use Rattle.at_command.specs.Csq.{dbm_of, f32, rate_of, quality_of, level_of}
-use Rattle.at_command.specs.says.Csq.{level_says, code_says}
-use Rattle.at_command.specs.declared.csq.SignalLevel.{SignalLevel}
-use Rattle.at_command.specs.declared.csq.LevelCode.{LevelCode}
-use Rattle.at_command.specs.declared.csq.LevelCode.TheVariants.{Is, Not}
 
 pub each : (f : ℕ → Bool) → T (every_below 32 f) → (r : ℕ) → r ≤ 31 → T (f r)
 each f t r h = below 32 f t r (suc-le-suc h)
@@ -116,11 +110,3 @@ module _ (max : ℕ) (f : ℕ → Float) (n : ℕ) where
   level_not h k = rw (lt-leb n max h, ne_eqb n 99 k)
 
 pub ruleset levels = (level_is, level_none, level_not)
-
--- a reading that needs the level goes on by the code's answer r
-module _ {B : Type 0} (o : Option (Option Float)) (f : Option Float → Reading B) (r : LevelCode) (is : code_says r ≡ o) where
-  pub told : (l : SignalLevel) (q : Reading B) → r ≡ Is l → q ≡ f (level_says l) → q ≡ need o f
-  told l q e z = need_so 3 o (level_says l) f q (ap code_says (sym e) ∙ is) z
-
-  pub untold : r ≡ Not → refused 3 ≡ need o f
-  untold e = need_not 3 o f (ap code_says (sym e) ∙ is)

@@ -1,20 +1,19 @@
 -- The check digit, digit by digit, and each way out of the reader. Assumes nothing.
-use mathlib.Core.Path.{◌≡◌, refl, ap, sym, ◌∙◌}
-use mathlib.Core.Bool.{Bool, true, false, not, ◌&&◌}
+use mathlib.Core.Path.{refl, ◌≡◌, ◌∙◌}
+use mathlib.Core.Bool.{Bool, true, false, ◌&&◌}
 use mathlib.Core.List.{List}
 use Prim.Native.Nat.{ℕ, ◌+◌, ◌-◌, ◌%◌, ◌≤◌, ◌<◌}
 use native.Mathlib.Omega.{arith}
-use lib.ListN.{length, get_or, take, drop, length-take}
-use borrow.Author.Tests.{eq-eqb, ne_eqb, not-true, not-false}
+use lib.ListN.{length, get_or, take, drop}
+use lib.Dec.{eqb}
+use borrow.Author.Tests.{ne_eqb}
 use Rattle.text.specs.Bytes.{all_digits}
 use Rattle.text.specs.Digit.{above_zero}
 use Rattle.text.proofs.Ascii.{within_parts, is_digit_lem}
 use Rattle.text.proofs.AtIndex.{at_next, at_end}
 use Rattle.text.proofs.Told.{difference, to_nine as told-nine}
-use Rattle.text.specs.Part.{part_of}
 use Rattle.text.specs.Reading.{read, refused, only, either}
-use Rattle.text.proofs.Parts.{from_start}
-use Rattle.at_command.specs.Gsn.{whole, doubled, luhn, check_digit, imei_text}
+use Rattle.at_command.specs.Gsn.{whole, doubled, luhn, check_digit, is_imei, imei_text}
 
 -- what a digit is worth, as the code has it
 module _ (s : List ℕ) (i : ℕ) (inv : all_digits (drop i s) ≡ true) (h : i < length s) where
@@ -43,41 +42,11 @@ module _ (s : List ℕ) (i sum : ℕ) where
       let y : luhn false s ≡ sum = omega arith in
       rw y
 
--- `from_checked`: of digits,
-module _ (s : List ℕ) (x : Bool) (all : x ≡ all_digits s) (yes : not x ≡ false) where
-  digits : all_digits s ≡ true
-  digits = sym all ∙ not-false x yes
-
-  pub front_digits : (n : ℕ) (t : List ℕ) → t ≡ part_of s 0 n → all_digits t ≡ true
-  front_digits n t q = ap all_digits (q ∙ from_start s n) ∙ (within_parts 48 57 n s digits).0
-
-  -- sixteen digits, whatever they are
-  pub version : length s ≡ 16 → read (whole (length s) true) ≡ imei_text s
-  unfolding imei_text only either
-  version h = rw (digits, h)
-
-  -- the check digit of the first fourteen against the fifteenth
-  module _ (low : 15 ≤ length s) (high : length s ≤ 16) (fewer : length s ≡ 16 → ⊥) (t : List ℕ) (k : ℕ) (is : k ≡ check_digit t) (q : t ≡ part_of s 0 14) where
-    fifteen : length s ≡ 15
-    fifteen = omega arith
-
-    expected : k ≡ check_digit (take 14 s)
-    expected = is ∙ ap check_digit (q ∙ from_start s 14)
-
-    module _ (v : ℕ) (value : v ≡ above_zero (get_or s 14 0)) where
-      last : v ≡ get_or s 14 0 - 48
-      last = digit_is s 14 (within_parts 48 57 14 s digits).1 (omega arith) v value
-
-      pub last_other : (v ≡ k → ⊥) → refused 3 ≡ imei_text s
-      unfolding imei_text only either
-      last_other n = rw (digits, fifteen, sym last, sym expected, ne_eqb _ _ n)
-
-      pub last_same : v ≡ k → read (whole (length s) false) ≡ imei_text s
-      unfolding imei_text only either
-      last_same e = rw (digits, fifteen, sym last, sym expected, eq-eqb _ _ e)
-
-pub front_few : (s t : List ℕ) → t ≡ part_of s 0 14 → length t ≤ 14
-front_few s t q = rw (q, from_start) (omega (arith, length-take 14 s))
+-- `is_imei`: the fifteenth digit against the check digit of the first fourteen
+pub fifteen_is : (s : List ℕ) (v k : ℕ) → all_digits s ≡ true → length s ≡ 15 → v ≡ above_zero (get_or s 14 0) → k ≡ check_digit (take 14 s) → eqb v k ≡ is_imei s
+fifteen_is s v k all fifteen value is =
+    let last : v ≡ get_or s 14 0 - 48 = digit_is s 14 (within_parts 48 57 14 s all).1 (omega arith) v value in
+    rw (all, fifteen, ← last, ← is)
 
 -- no other length is a number
 pub other_count : (s : List ℕ) → (length s ≡ 15 → ⊥) → (length s ≡ 16 → ⊥) → refused 3 ≡ imei_text s
@@ -87,13 +56,3 @@ other_count s f g = rw (ne_eqb _ _ f, ne_eqb _ _ g) (go (all_digits s))
     go : (t : Bool) → refused 3 ≡ either (t && false) (read (whole (length s) false)) (only (t && false) (read (whole (length s) true)))
     go true = refl
     go false = refl
-
-pub fewer_digits : (s : List ℕ) → length s < 15 → refused 3 ≡ imei_text s
-fewer_digits s h = other_count s (λ e. omega arith) (λ e. omega arith)
-
-pub more_digits : (s : List ℕ) → 16 < length s → refused 3 ≡ imei_text s
-more_digits s h = other_count s (λ e. omega arith) (λ e. omega arith)
-
-pub other_bytes : (s : List ℕ) (x : Bool) → x ≡ all_digits s → not x ≡ true → refused 3 ≡ imei_text s
-unfolding imei_text only either
-other_bytes s x e h = let z : all_digits s ≡ false = sym e ∙ not-true x h in rw z

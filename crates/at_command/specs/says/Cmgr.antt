@@ -1,21 +1,20 @@
 -- What the answers of cmgr say on paper.
-use Rattle.std.specs.Prelude.{◌≡◌, List, ℕ}
+use Rattle.std.specs.Prelude.{◌≡◌, List, ℕ, Result}
 use Rattle.text.specs.Part.{Span}
 use Rattle.text.specs.Line.{checked}
-use Rattle.text.specs.Reading.{Reading, read, refused}
+use Rattle.text.specs.Reading.{Reading}
+use Rattle.text.specs.says.Refusal.{reading_said}
+use Rattle.text.specs.declared.refusal.Refusal.{Refusal}
 use Rattle.text.specs.says.Part.{place_says}
 use Rattle.at_command.specs.Cmgr.{cmgr_text}
 use Rattle.at_command.specs.declared.cmgr.SmsMessage.{SmsMessage}
-use Rattle.at_command.specs.declared.cmgr.SmsMessageAnswer.{SmsMessageAnswer}
-use Rattle.at_command.specs.declared.cmgr.SmsMessageAnswer.TheVariants.{Value, Refused}
 
 abbrev pub message_says : SmsMessage → Span
 message_says m = place_says m.sender
 
-abbrev pub says : SmsMessageAnswer → Reading Span
-says (Value m) = read (message_says m)
-says (Refused k) = refused k
+abbrev pub says : Result SmsMessage Refusal → Reading Span
+says = reading_said message_says
 
 -- the contract of its reader
-abbrev pub SmsMessageKeeps : List ℕ → SmsMessageAnswer → Type 0
+abbrev pub SmsMessageKeeps : List ℕ → Result SmsMessage Refusal → Type 0
 SmsMessageKeeps line r = says r ≡ checked cmgr_text line

@@ -1,16 +1,15 @@
 -- What the answers of httptofs say on paper.
-use Rattle.std.specs.Prelude.{◌≡◌, List, ℕ, cond, eqb}
+use Rattle.std.specs.Prelude.{◌≡◌, List, ℕ, cond, eqb, Result}
+use Rattle.std.specs.Prelude as Std
 use Rattle.std.proofs.Math.Option.{Option, none, some}
 use Rattle.text.specs.Line.{checked}
-use Rattle.text.specs.Reading.{Reading, read, refused}
+use Rattle.text.specs.Reading.{Reading}
+use Rattle.text.specs.says.Refusal.{reading_said}
+use Rattle.text.specs.declared.refusal.Refusal.{Refusal}
 use Rattle.at_command.specs.Httptofs.{Download, httptofs_text}
 use Rattle.at_command.specs.declared.httptofs.StatusCode.{StatusCode}
 use Rattle.at_command.specs.declared.httptofs.StatusCode.TheVariants.{Continue, Ok, PartialContent, BadRequest, NotFound, RequestTimeout, InternalServerError, NotHttpPdu, NetworkError, NoMemory, DnsError, StackBusy, SslContinue, OtherErrors}
-use Rattle.at_command.specs.declared.httptofs.Success.{Success}
-use Rattle.at_command.specs.declared.httptofs.Success.TheVariants as S
 use Rattle.at_command.specs.declared.httptofs.DownloadInfo.{DownloadInfo}
-use Rattle.at_command.specs.declared.httptofs.DownloadInfoAnswer.{DownloadInfoAnswer}
-use Rattle.at_command.specs.declared.httptofs.DownloadInfoAnswer.TheVariants.{Value, Refused}
 
 abbrev pub status_number : StatusCode → ℕ
 status_number Continue = 100
@@ -32,21 +31,20 @@ status_number OtherErrors = 0
 abbrev pub failure_of : ℕ → Option ℕ
 failure_of n = cond (eqb n 200) none (some n)
 
-abbrev pub success_says : Success → Option ℕ
-success_says S.Ok = none
-success_says (S.Err c) = some (status_number c)
+abbrev pub success_says : Result Unit StatusCode → Option ℕ
+success_says (Std.Ok v) = none
+success_says (Std.Err c) = some (status_number c)
 
 abbrev pub info_says : DownloadInfo → Download
 info_says d = record { status = status_number d.status_code; size = d.data_length }
 
-abbrev pub says : DownloadInfoAnswer → Reading Download
-says (Value d) = read (info_says d)
-says (Refused k) = refused k
+abbrev pub says : Result DownloadInfo Refusal → Reading Download
+says = reading_said info_says
 
 -- the contract of its reader
-abbrev pub DownloadInfoKeeps : List ℕ → DownloadInfoAnswer → Type 0
+abbrev pub DownloadInfoKeeps : List ℕ → Result DownloadInfo Refusal → Type 0
 DownloadInfoKeeps line r = says r ≡ checked httptofs_text line
 
 -- and of `success`
-abbrev pub SuccessKeeps : StatusCode → Success → Type 0
+abbrev pub SuccessKeeps : StatusCode → Result Unit StatusCode → Type 0
 SuccessKeeps code r = success_says r ≡ failure_of (status_number code)

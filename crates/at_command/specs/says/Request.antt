@@ -1,11 +1,11 @@
 -- What the requests and the answers of their writers say on paper.
-use Rattle.std.specs.Prelude.{◌≡◌, ℕ, List, [], ◌∷◌}
-use Rattle.text.specs.Reading.{Reading, read, refused}
+use Rattle.std.specs.Prelude.{◌≡◌, ℕ, List, [], ◌∷◌, Result}
+use Rattle.text.specs.Reading.{Reading}
+use Rattle.text.specs.says.Refusal.{reading_said}
+use Rattle.text.specs.declared.refusal.Refusal.{Refusal}
 use Rattle.at_command.specs.Kind.{Kind, generic_ok, sim_error, write_prompt, close_ok, iccid, signal_quality, system_info, operator_info, network_time, download_info, imei, sms_message_format, sms_message, kind_at}
 use Rattle.at_command.specs.Request.{Asked, get_signal_quality, show_iccid, get_imei, get_operator_info, set_manual_operator, set_automatic_operator, get_system_info, synchronize_network_time, execute, download_to_file_system, get_sms_message_format, set_sms_message_format, read_sms, Writes, answers_to}
 use Rattle.at_command.specs.says.Cmgf.{format_number}
-use Rattle.at_command.specs.declared.request.Encoded.{Encoded}
-use Rattle.at_command.specs.declared.request.Encoded.TheVariants as E
 use Rattle.at_command.specs.declared.request.Request.{Request}
 use Rattle.at_command.specs.declared.request.Request.TheVariants as R
 use Rattle.at_command.specs.declared.request.ResponseKind.{ResponseKind}
@@ -13,9 +13,8 @@ use Rattle.at_command.specs.declared.request.ResponseKind.TheVariants as K
 use Rattle.at_command.specs.declared.request.Awaits.{Awaits}
 use Rattle.at_command.specs.declared.request.Awaits.TheVariants.{One, Two}
 
-abbrev pub encoded_says : Encoded → Reading ℕ
-encoded_says (E.Size n) = read n
-encoded_says (E.Refused k) = refused k
+abbrev pub encoded_says : Result ℕ Refusal → Reading ℕ
+encoded_says = reading_said (λ n. n)
 
 -- the request with the lent texts, as far as it has texts
 abbrev pub asked : Request → List ℕ → List ℕ → Asked
@@ -57,7 +56,7 @@ abbrev pub awaited_by : Request → List Kind
 awaited_by q = answers_to (asked q [] [])
 
 -- the contract of every writer: the size or the refusal, and the output buffer
-abbrev pub EncodeKeeps : Asked → List ℕ → Encoded → List ℕ → Type 0
+abbrev pub EncodeKeeps : Asked → List ℕ → Result ℕ Refusal → List ℕ → Type 0
 EncodeKeeps request before r after = Writes request before (encoded_says r) after
 
 -- and of `awaits`

@@ -1,7 +1,9 @@
 -- What the answers of the trial say on paper.
-use Rattle.std.specs.Prelude.{◌≡◌, List, ℕ}
+use Rattle.std.specs.Prelude.{◌≡◌, List, ℕ, Result}
 use Rattle.text.specs.Line.{checked}
-use Rattle.text.specs.Reading.{Reading, read, refused}
+use Rattle.text.specs.Reading.{Reading}
+use Rattle.text.specs.says.Refusal.{reading_said}
+use Rattle.text.specs.declared.refusal.Refusal.{Refusal}
 use Rattle.at_command.specs.Response.{Response, kind_of, ok, error, prompt, close_ok, iccid, signal, system, operator, time, download, imei, format, message, response_text, reading_at}
 use Rattle.at_command.specs.says.Ccid.{card_says}
 use Rattle.at_command.specs.says.Cmgf.{format_number}
@@ -17,8 +19,6 @@ use Rattle.at_command.specs.says.Request.{kind_says}
 use Rattle.at_command.specs.declared.request.ResponseKind.{ResponseKind}
 use Rattle.at_command.specs.declared.ResponseCode.{ResponseCode}
 use Rattle.at_command.specs.declared.ResponseCode.TheVariants as R
-use Rattle.at_command.specs.declared.ResponseCodeAnswer.{ResponseCodeAnswer}
-use Rattle.at_command.specs.declared.ResponseCodeAnswer.TheVariants.{Value, Refused}
 
 abbrev pub code_says : ResponseCode → Response
 code_says (R.Ok v) = ok (ok_mark v)
@@ -35,16 +35,15 @@ code_says (R.Imei v) = imei (imei_says v)
 code_says (R.SmsMessageFormat v) = format (format_number v)
 code_says (R.SmsMessage v) = message (message_says v)
 
-abbrev pub says : ResponseCodeAnswer → Reading Response
-says (Value c) = read (code_says c)
-says (Refused k) = refused k
+abbrev pub says : Result ResponseCode Refusal → Reading Response
+says = reading_said code_says
 
 -- the contract of the trial
-abbrev pub ResponseCodeKeeps : List ℕ → ResponseCodeAnswer → Type 0
+abbrev pub ResponseCodeKeeps : List ℕ → Result ResponseCode Refusal → Type 0
 ResponseCodeKeeps line r = says r ≡ checked response_text line
 
 -- and of one reader, by its place
-abbrev pub ResponseAtKeeps : ℕ → List ℕ → ResponseCodeAnswer → Type 0
+abbrev pub ResponseAtKeeps : ℕ → List ℕ → Result ResponseCode Refusal → Type 0
 ResponseAtKeeps place line r = says r ≡ checked (reading_at place) line
 
 -- and of `kind`

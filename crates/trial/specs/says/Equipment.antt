@@ -1,5 +1,6 @@
 -- What a line of digits says, by all seventeen readers in their order (document 02, CR 3; TS 23.003, 6.2 and annex B).
-use Rattle.std.specs.Prelude.{ℕ, ◌≤◌, ◌<◌, ◌≡◌, true, false, List, length}
+use Rattle.std.specs.Prelude.{Result, ℕ, ◌≤◌, ◌<◌, ◌≡◌, true, false, List, length}
+use Rattle.text.specs.declared.refusal.Refusal.{Refusal}
 use Rattle.text.specs.Bytes.{all_digits}
 use Rattle.text.specs.Reading.{read, refused, only}
 use Rattle.at_command.specs.Gsn.{whole, is_imei}
@@ -8,7 +9,7 @@ use Rattle.trial.specs.Answer.{response}
 use Rattle.trial.specs.says.Line.{line_says, LineKeeps}
 use Rattle.trial.specs.declared.Line.{Line}
 
-pub record Equipment (l : List ℕ) (r : Line) : Type 0 where
+pub record Equipment (l : List ℕ) (r : Result Line Refusal) : Type 0 where
   -- sixteen are a version number, whatever they are
   pub sixteen : length l ≡ 16 → line_says r ≡ read (response (imei (whole 16 true)))
   -- fifteen are an IMEI where the last is the check digit of the others, and else refused with 3
@@ -18,4 +19,4 @@ pub record Equipment (l : List ℕ) (r : Line) : Type 0 where
 
 -- of every answer that keeps the trial's contract
 abbrev pub EquipmentRead : Type 0
-EquipmentRead = (l : List ℕ) → all_digits l ≡ true → (r : Line) → LineKeeps l r → Equipment l r
+EquipmentRead = (l : List ℕ) → all_digits l ≡ true → (r : Result Line Refusal) → LineKeeps l r → Equipment l r

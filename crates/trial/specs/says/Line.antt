@@ -1,6 +1,8 @@
 -- What the answers say on paper, and what the calls keep.
-use Rattle.std.specs.Prelude.{ℕ, ◌≡◌, List}
-use Rattle.text.specs.Reading.{Reading, read, refused, mapped}
+use Rattle.std.specs.Prelude.{ℕ, ◌≡◌, List, Result}
+use Rattle.text.specs.Reading.{Reading}
+use Rattle.text.specs.says.Refusal.{reading_said}
+use Rattle.text.specs.declared.refusal.Refusal.{Refusal}
 use Rattle.at_command.specs.says.Request.{kind_says}
 use Rattle.at_command.specs.says.Response.{code_says}
 use Rattle.unsolicited.specs.says.Urc.{urc_says}
@@ -16,34 +18,40 @@ use Rattle.trial.specs.declared.Sort.TheVariants as C
 use Rattle.trial.specs.declared.Taker.{Taker}
 use Rattle.trial.specs.declared.Taker.TheVariants as K
 
-abbrev pub line_says : Line → Reading Said
-line_says (L.Response c) = read (response (code_says c))
-line_says (L.Unsolicited u) = read (unsolicited (urc_says u))
-line_says (L.Refused k) = refused k
+abbrev pub line_value : Line → Said
+line_value (L.Response c) = response (code_says c)
+line_value (L.Unsolicited u) = unsolicited (urc_says u)
 
-abbrev pub sort_says : Sort → Reading S.Sort
-sort_says (C.Refused k) = refused k
-sort_says (C.Response k) = read (S.response (kind_says k))
-sort_says C.Unsolicited = read S.unsolicited
+abbrev pub line_says : Result Line Refusal → Reading Said
+line_says = reading_said line_value
 
-abbrev pub taker_says : Taker → Reading T.Taker
-taker_says (K.Refused k) = refused k
-taker_says (K.Response k) = read (T.response (kind_says k))
-taker_says K.GnssReport = read T.gnss
-taker_says K.NetworkRegistration = read T.registration
+abbrev pub sort_value : Sort → S.Sort
+sort_value (C.Response k) = S.response (kind_says k)
+sort_value C.Unsolicited = S.unsolicited
+
+abbrev pub sort_says : Result Sort Refusal → Reading S.Sort
+sort_says = reading_said sort_value
+
+abbrev pub taker_value : Taker → T.Taker
+taker_value (K.Response k) = T.response (kind_says k)
+taker_value K.GnssReport = T.gnss
+taker_value K.NetworkRegistration = T.registration
+
+abbrev pub taker_says : Result Taker Refusal → Reading T.Taker
+taker_says = reading_said taker_value
 
 -- `Line::from_line`, and the second engine's `said`
-abbrev pub LineKeeps : List ℕ → Line → Type 0
+abbrev pub LineKeeps : List ℕ → Result Line Refusal → Type 0
 LineKeeps line r = line_says r ≡ line_said line
 
 -- `Line::sort`
 abbrev pub SortedKeeps : Line → Sort → Type 0
-SortedKeeps said r = sort_says r ≡ mapped sort_of (line_says said)
+SortedKeeps said r = sort_value r ≡ sort_of (line_value said)
 
 -- `sort_of` of both engines
-abbrev pub SortKeeps : List ℕ → Sort → Type 0
+abbrev pub SortKeeps : List ℕ → Result Sort Refusal → Type 0
 SortKeeps line r = sort_says r ≡ line_sort line
 
 -- `taker`
-abbrev pub TakerKeeps : List ℕ → Taker → Type 0
+abbrev pub TakerKeeps : List ℕ → Result Taker Refusal → Type 0
 TakerKeeps line r = taker_says r ≡ line_taker line

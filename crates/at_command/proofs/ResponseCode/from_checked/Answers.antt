@@ -1,23 +1,17 @@
-use Rattle.at_command.specs.Response.{response_text, readings}
-use Rattle.at_command.proofs.TrialSteps.{trial}
+use Rattle.std.proofs.Common.{arith, refl}
+use Rattle.at_command.specs.Response.{response_text}
+use Rattle.at_command.proofs.Trial.{trial_takes, trial_goes_on, trial_ends}
 use Rattle.at_command.proofs.ResponseCode.from_checked.Goals as goal
 
-pub returns-in-Value : goal.returns-in-Value
-unfolding response_text readings
-returns-in-Value c = search trial
+pub loop-place-init : goal.loop-place-init
+unfolding response_text
+loop-place-init c = refl
 
-pub returns-in-Value-from_checked : goal.returns-in-Value-from_checked
-unfolding response_text readings
-returns-in-Value-from_checked c = search trial
+pub returns-in-Ok : goal.returns-in-Ok
+returns-in-Ok c = trial_takes _ _ _ c.loop-place.invariant (omega arith) _ c.in-Ok.ensures
 
-pub returns-in-Value-from_checked-2 : goal.returns-in-Value-from_checked-2
-unfolding response_text readings
-returns-in-Value-from_checked-2 c = search trial
+pub loop-place-preserved : goal.loop-place-preserved
+loop-place-preserved c = trial_goes_on _ _ _ c.loop-place.invariant (omega arith) _ _ c.in-Err.ensures c.worse-refusal.ensures
 
-pub returns-in-Value-from_checked-3 : goal.returns-in-Value-from_checked-3
-unfolding response_text readings
-returns-in-Value-from_checked-3 c = search trial
-
-pub returns-in-Refused-from_checked-3 : goal.returns-in-Refused-from_checked-3
-unfolding response_text readings
-returns-in-Refused-from_checked-3 c = search trial
+pub returns : goal.returns
+returns c = trial_ends _ _ _ c.loop-place.invariant (omega arith)

@@ -1,29 +1,15 @@
-use Rattle.at_command.proofs.httptofs.Laws.{passed, held}
-use borrow.Author.Rules.{rules}
+use Rattle.std.proofs.Common.{◌≡◌, refl, Option, Some, None, unwrap_or}
+use Rattle.text.specs.says.Refusal.{option_mapped}
+use Rattle.text.proofs.Codes.{mapped_entry}
+use Rattle.at_command.specs.Httptofs.{or_zero}
+use Rattle.at_command.specs.says.Httptofs.{status_number}
+use Rattle.at_command.specs.declared.httptofs.StatusCode.{StatusCode}
+use Rattle.at_command.specs.declared.httptofs.StatusCode.TheVariants.{OtherErrors}
 use Rattle.at_command.proofs.httptofs.status_of.Goals as goal
 
-ruleset statuses = (rules, passed, held)
-
-pub returns-then-is_text : goal.returns-then-is_text
-returns-then-is_text c = search statuses
-
-pub returns-then-is_text-2 : goal.returns-then-is_text-2
-returns-then-is_text-2 c = search statuses
-
-pub returns-then-is_text-3 : goal.returns-then-is_text-3
-returns-then-is_text-3 c = search statuses
-
-pub returns-then-is_text-4 : goal.returns-then-is_text-4
-returns-then-is_text-4 c = search statuses
-
-pub returns-then-is_text-5 : goal.returns-then-is_text-5
-returns-then-is_text-5 c = search statuses
-
-pub returns-then-is_text-6 : goal.returns-then-is_text-6
-returns-then-is_text-6 c = search statuses depth 20 fits 9000
-
-pub returns-then-is_text-7 : goal.returns-then-is_text-7
-returns-then-is_text-7 c = search statuses depth 20 fits 9000
+else_zero : (o : Option StatusCode) → status_number (unwrap_or o OtherErrors) ≡ or_zero (option_mapped status_number o)
+else_zero (Some s) = refl
+else_zero None = refl
 
 pub returns : goal.returns
-returns c = search statuses depth 20 fits 9000
+returns c = rw (c.unwrap_or.ensures, else_zero c.coded.result, c.coded.ensures) (simp mapped_entry)

@@ -1,12 +1,10 @@
-use Rattle.std.proofs.Common.{rules}
-use Rattle.text.proofs.Finding.{told_out, told_more, within_end}
+use Rattle.std.proofs.Common.{rules, tests, ◌∙◌, sym}
+use Rattle.std.proofs.lemmas.Iterator.{YieldsList-from_slice}
+use Rattle.std.proofs.lemmas.Iterator.Search.{all_from_yields_List}
+use Rattle.text.specs.Digit.{is_digit}
+use Rattle.text.proofs.Finding.{within_is}
 use Rattle.text.proofs.bytes.all_digits.Goals as goal
 
-pub returns-then-not-is_ascii_digit : goal.returns-then-not-is_ascii_digit
-returns-then-not-is_ascii_digit c = search (rules, told_out)
-
-pub loop-i-preserved : goal.loop-i-preserved
-loop-i-preserved c = search (rules, told_more)
-
 pub returns : goal.returns
-returns c = search (rules, within_end)
+returns c = let a = c.args in
+    all_from_yields_List is_digit _ _ _ c.all.ensures.ran (YieldsList-from_slice a.s.now cc) (λ x b q k. search (rules, tests)) ∙ sym (within_is 48 57 a.s.now)

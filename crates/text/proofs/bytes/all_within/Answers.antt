@@ -1,15 +1,10 @@
-use Rattle.std.proofs.Common.{rules}
-use Rattle.text.proofs.Finding.{within_low, within_high, within_more, within_end}
+use Rattle.std.proofs.Common.{rules, tests, ◌∙◌, sym}
+use Rattle.std.proofs.lemmas.Iterator.{YieldsList-from_slice}
+use Rattle.std.proofs.lemmas.Iterator.Search.{all_from_yields_List}
+use Rattle.text.specs.Bytes.{within}
+use Rattle.text.proofs.Finding.{within_is}
 use Rattle.text.proofs.bytes.all_within.Goals as goal
 
-pub returns-then-x-lo : goal.returns-then-x-lo
-returns-then-x-lo c = search (rules, within_low)
-
-pub returns-then-hi-x : goal.returns-then-hi-x
-returns-then-hi-x c = search (rules, within_high)
-
-pub loop-i-preserved : goal.loop-i-preserved
-loop-i-preserved c = search (rules, within_more)
-
 pub returns : goal.returns
-returns c = search (rules, within_end)
+returns c = let a = c.args in
+    all_from_yields_List (within a.lo a.hi) _ _ _ c.all.ensures.ran (YieldsList-from_slice a.s.now cc) (λ x b q k. search (rules, tests)) ∙ sym (within_is a.lo a.hi a.s.now)

@@ -1,12 +1,9 @@
-use Rattle.std.proofs.Common.{rules}
-use Rattle.text.proofs.Finding.{few_fits, count_few, count_more, count_end}
+use Rattle.std.proofs.Common.{take_all, sym, ◌∙◌, ap, arith, count_by, eqb}
+use Rattle.text.proofs.Finding.{count_is}
 use Rattle.text.proofs.bytes.count_few.Goals as goal
 
-pub overflow_add-n : goal.overflow_add-n
-overflow_add-n c = search (rules, few_fits)
-
-pub loop-i-preserved : goal.loop-i-preserved
-loop-i-preserved c = search (rules, count_few, count_more)
-
 pub returns : goal.returns
-returns c = search (rules, count_end)
+returns c =
+    let a = c.args in
+    let z = take_all c.loop-x.x-index a.s.now (omega arith) in
+    c.loop-x.invariant ∙ ap (count_by (λ x. eqb x a.b)) z ∙ sym (count_is a.b a.s.now)

@@ -1,10 +1,6 @@
--- The loop's invariant: the count so far and that of the rest make the whole. Assumes nothing.
-use Rattle.std.proofs.Common.{◌≡◌, ◌+◌, ◌-◌, ◌≤◌, length, drop}
-use Rattle.text.specs.Bytes.{count_of}
+-- The loop's invariant: the count of what is passed. Assumes nothing.
+use Rattle.std.proofs.Common.{◌≡◌, eqb, count_by, take}
 use Rattle.text.proofs.bytes.count_few.Given as goal
 
-abbrev pub invariant-loop-i : goal.invariant-loop-i
-invariant-loop-i l = (l.n ≤ l.i) × (l.n + count_of l.b (drop l.i l.s) ≡ count_of l.b l.s)
-
-abbrev pub decreases-loop-i : goal.decreases-loop-i
-decreases-loop-i l = length l.s - l.i
+abbrev pub invariant-loop-x : goal.invariant-loop-x
+invariant-loop-x l = l.n ≡ count_by (λ x. eqb x l.b) (take l.x-index l.s)

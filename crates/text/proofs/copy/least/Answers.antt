@@ -1,8 +1,6 @@
-use Rattle.text.proofs.Copying.{least_first, least_second}
+use Rattle.std.proofs.Common.{sym, ◌∙◌}
+use Rattle.text.proofs.Copying.{least_is}
 use Rattle.text.proofs.copy.least.Goals as goal
 
-pub returns-then-a-b : goal.returns-then-a-b
-returns-then-a-b c = search least_first
-
 pub returns : goal.returns
-returns c = search least_second
+returns c = c.min.ensures ∙ sym (least_is c.args.a c.args.b)

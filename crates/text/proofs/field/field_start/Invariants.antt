@@ -4,7 +4,4 @@ use Rattle.text.specs.Field.{fields, place_of}
 use Rattle.text.proofs.field.field_start.Given as goal
 
 abbrev pub invariant-loop-k : goal.invariant-loop-k
-invariant-loop-k l = (l.k ≤ l.n) × (l.at ≤ length l.s) × (place_of l.n (fields l.b l.s) ≡ l.at + place_of (l.n - l.k) (fields l.b (drop l.at l.s)))
-
-abbrev pub decreases-loop-k : goal.decreases-loop-k
-decreases-loop-k l = l.n - l.k
+invariant-loop-k l = (l.at ≤ length l.s) × (place_of l.n (fields l.b l.s) ≡ l.at + place_of (l.n - l._k) (fields l.b (drop l.at l.s)))

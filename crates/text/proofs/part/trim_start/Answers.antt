@@ -1,12 +1,11 @@
-use Rattle.std.proofs.Common.{rules}
-use Rattle.text.proofs.Trims.{start_stop, start_more, start_none}
+use Rattle.std.proofs.Common.{◌≡◌, eqb, not, position, ◌∙◌, rules, tests}
+use Rattle.std.proofs.lemmas.Iterator.{YieldsList-from_slice}
+use Rattle.std.proofs.lemmas.Iterator.Search.{position_from_yields_List}
+use Rattle.text.proofs.Trims.{start_is}
 use Rattle.text.proofs.part.trim_start.Goals as goal
 
-pub returns-then-s-i : goal.returns-then-s-i
-returns-then-s-i c = search (rules, start_stop)
-
-pub loop-i-preserved : goal.loop-i-preserved
-loop-i-preserved c = search (rules, start_more)
-
 pub returns : goal.returns
-returns c = search (rules, start_none)
+returns c =
+    let a = c.args in
+    let e : c.position.result ≡ position (λ x. not (eqb x a.b)) a.s.now = position_from_yields_List (λ x. not (eqb x a.b)) _ _ _ c.position.ensures.ran (YieldsList-from_slice a.s.now cc) (λ x b q k. search (rules, tests)) in
+    rw e at c.unwrap_or.ensures ∙ start_is a.b a.s.now

@@ -16,7 +16,7 @@ loop-k-preserved c =
     let i = c.loop-k.invariant in
     record {
       line = c.next-r.ensures.0 ∙ i.line;
-      place = rw (add-one c.loop-k.k, ← i.place, ← i.line) c.next-r.ensures.1;
+      place = rw (add-one c.loop-k._k, ← i.place, ← i.line) c.next-r.ensures.1;
       most = omega arith;
     }
 
@@ -32,10 +32,10 @@ pub returns : goal.returns
 returns c =
     let i = c.loop-k.invariant in
     let line : c.loop-k.r.line ≡ c.args.line = i.line ∙ c.new-r.ensures.0 in
-    let place : c.loop-k.r.at ≡ stands_at c.loop-k.k c.args.line.now = i.place ∙ ap (λ (x : Bor (List ℕ)). stands_at c.loop-k.k x.now) c.new-r.ensures.0 in
+    let place : c.loop-k.r.at ≡ stands_at c.loop-k._k c.args.line.now = i.place ∙ ap (λ (x : Bor (List ℕ)). stands_at c.loop-k._k x.now) c.new-r.ensures.0 in
     at_nth c.args.n _ _ _ _ line
     (elim c.loop-k-test.branch [
       | else-loop-k-test w ↦ place ∙ ap (λ (k : ℕ). stands_at k c.args.line.now) (le_antisymm i.most w.loop-k-test.false)
-      | then-loop-k-test+then-ended w ↦ stands c.args.n c.loop-k.k _ _ _ line place i.most (sym w.ended.ensures ∙ w.if-ended.true)
+      | then-loop-k-test+then-ended w ↦ stands c.args.n c.loop-k._k _ _ _ line place i.most (sym w.ended.ensures ∙ w.if-ended.true)
     ])
     c.field.ensures

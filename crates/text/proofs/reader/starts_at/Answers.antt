@@ -8,10 +8,10 @@ pub returns-then-k-ge22 : goal.returns-then-k-ge22
 returns-then-k-ge22 c = search found_full
 
 pub overflow_add-k : goal.overflow_add-k
-overflow_add-k c = search fits_more
+overflow_add-k c = rw c.from-k.ensures (search fits_more)
 
 pub loop-i-preserved : goal.loop-i-preserved
-loop-i-preserved c = search found_more
+loop-i-preserved c = rw c.from-k.ensures (search found_more)
 
 pub returns-then-k-lt22 : goal.returns-then-k-lt22
 returns-then-k-lt22 c = search found_last

@@ -1,6 +1,8 @@
-use Rattle.std.proofs.Common.{rules}
-use Rattle.text.proofs.Utf8Walk.{utf8_end}
+use Rattle.std.proofs.Common.{sym, ◌∙◌, eqb-true}
+use Rattle.text.proofs.Utf8Laws.{utf8_none}
 use Rattle.text.proofs.utf8.is_utf8.Goals as goal
 
-pub returns-then-s-a : goal.returns-then-s-a
-returns-then-s-a c = search (rules, utf8_end)
+pub returns-then-is_empty : goal.returns-then-is_empty
+returns-then-is_empty c =
+    let e = eqb-true _ 0 (sym c.is_empty.ensures ∙ c.if-is_empty.true) in
+    c.if-is_empty.true ∙ sym (c.behind_ascii-rest.ensures ∙ utf8_none _ e)

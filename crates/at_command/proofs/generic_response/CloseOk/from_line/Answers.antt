@@ -1,8 +1,0 @@
-use Rattle.text.proofs.LineLaws.{lines}
-use Rattle.at_command.proofs.generic_response.CloseOk.from_line.Goals as goal
-
-pub returns-then-k-ne0 : goal.returns-then-k-ne0
-returns-then-k-ne0 c = search lines
-
-pub returns : goal.returns
-returns c = search lines
