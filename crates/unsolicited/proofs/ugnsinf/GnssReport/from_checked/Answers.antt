@@ -1,7 +1,6 @@
-use Rattle.std.proofs.Common.{refl, ap, ◌∙◌}
+use Rattle.std.proofs.Common.{ap, ◌∙◌}
 use Rattle.text.specs.Field.{fields}
-use Rattle.text.specs.Reading.{refused, refusal_in}
-use Rattle.text.specs.says.Refusal.{refusal_said}
+use Rattle.text.specs.Reading.{refused}
 use Rattle.unsolicited.specs.Gnss.{ugnsinf_fields, ugnsinf_text}
 use Rattle.unsolicited.specs.says.Gnss.{says}
 use Rattle.unsolicited.proofs.Stripped.{exit, lacks, has}

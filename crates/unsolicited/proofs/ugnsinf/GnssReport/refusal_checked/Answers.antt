@@ -1,9 +1,8 @@
 use Rattle.std.proofs.Common.{refl, ap, ◌∙◌}
 use Rattle.text.specs.Field.{fields}
-use Rattle.text.specs.Reading.{refused, refusal_in}
+use Rattle.text.specs.Reading.{refusal_in}
 use Rattle.text.specs.says.Refusal.{refusal_said}
 use Rattle.unsolicited.specs.Gnss.{ugnsinf_fields, ugnsinf_text}
-use Rattle.unsolicited.specs.says.Gnss.{says}
 use Rattle.unsolicited.proofs.Stripped.{exit, lacks, has}
 use Rattle.unsolicited.proofs.ugnsinf.GnssReport.refusal_checked.Goals as goal
 
