@@ -8,8 +8,8 @@ ghost use Rattle.text.specs.says.Refusal.{option_said, refusal_said};
 ghost use Rattle.unsolicited.specs.Registration.{cereg_status, cereg_fields, cereg_text};
 ghost use Rattle.unsolicited.specs.says.Registration.{says, RegistrationKeeps};
 
-use crate::network_registration::NetworkRegistration;
-use crate::{network_registration, prefix};
+use crate::network_registration::{NetworkRegistration, RegistrationStatus};
+use crate::prefix;
 use text::refusal::Refusal;
 use text::{bytes, field, line, number, reader};
 
@@ -39,7 +39,7 @@ impl CEReg {
         let rest = prefix::behind(line, b"+CEREG: ")?;
         let status = status_in(rest).ok_or(Refusal::NotThisLine)?;
         Ok(NetworkRegistration {
-            status: network_registration::status_of(status),
+            status: RegistrationStatus::from(status),
             lac: None,
             ci: None,
         })

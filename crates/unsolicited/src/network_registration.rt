@@ -6,9 +6,9 @@ ghost use Rattle.text.specs.Part.{trimmed};
 ghost use Rattle.text.specs.Reading.{refusal_in};
 ghost use Rattle.text.specs.says.Refusal.{option_said, refusal_said};
 ghost use Rattle.unsolicited.specs.Places.{status_place};
-ghost use Rattle.unsolicited.specs.Registration.{status_of, registration_at};
-ghost use Rattle.unsolicited.specs.Registration.{registration_fields, registration_text};
-ghost use Rattle.unsolicited.specs.says.Registration.{status_number, says, RegistrationKeeps};
+ghost use Rattle.unsolicited.specs.Registration.{registration_at, registration_fields};
+ghost use Rattle.unsolicited.specs.Registration.{registration_text};
+ghost use Rattle.unsolicited.specs.says.Registration.{says, RegistrationKeeps, StatusKeeps};
 
 use crate::cereg::CEReg;
 use crate::cgreg::CGReg;
@@ -35,17 +35,20 @@ pub struct NetworkRegistration {
     pub ci: Option<u32>,
 }
 
-#[tactic(auto, using(crate::proofs::Registrations::by_number))]
-pub(crate) fn status_of(n: i32) -> RegistrationStatus
-    ensures { status_number result ≡ status_of n }
-{
-    match n {
-        1 => RegistrationStatus::RegisteredHome,
-        2 => RegistrationStatus::Searching,
-        3 => RegistrationStatus::RegistrationDenied,
-        4 => RegistrationStatus::Unknown,
-        5 => RegistrationStatus::RegisteredRoaming,
-        _ => RegistrationStatus::NotRegistered,
+impl From<i32> for RegistrationStatus {
+    ghost from_gives = { λ number status. StatusKeeps number status };
+
+    // By its number; every other is as 0.
+    #[tactic(auto, using(crate::proofs::Registrations::by_number))]
+    fn from(number: i32) -> RegistrationStatus {
+        match number {
+            1 => RegistrationStatus::RegisteredHome,
+            2 => RegistrationStatus::Searching,
+            3 => RegistrationStatus::RegistrationDenied,
+            4 => RegistrationStatus::Unknown,
+            5 => RegistrationStatus::RegisteredRoaming,
+            _ => RegistrationStatus::NotRegistered,
+        }
     }
 }
 
@@ -64,7 +67,7 @@ fn registration_at(rest: &[u8], n: usize) -> Result<NetworkRegistration, Refusal
 {
     let status = number::parse_i32(reader::nth_field(rest, n)).ok_or(Refusal::NotThisLine)?;
     Ok(NetworkRegistration {
-        status: status_of(status),
+        status: RegistrationStatus::from(status),
         lac: number::parse_hex_u16(unquoted(rest, n + 1)),
         ci: number::parse_hex_u32(unquoted(rest, n + 2)),
     })

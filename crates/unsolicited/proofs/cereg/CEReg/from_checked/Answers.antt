@@ -21,4 +21,4 @@ pub returns : goal.returns
 unfolding cereg_text
 returns c =
     has _ (λ t. cereg_fields (fields 44 t)) _ _ _ c.in_ok-rest.ensures.0 c.in_ok-rest.ensures.1
-    (cereg_some _ _ c.status_in.ensures _ _ (there_is _ _ _ _ c.ok_or.ensures.value c.in_ok-status.was) c.status_of.ensures)
+    (cereg_some _ _ c.status_in.ensures _ _ (there_is _ _ _ _ c.ok_or.ensures.value c.in_ok-status.was) c.from.ensures)
