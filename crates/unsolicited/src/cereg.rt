@@ -33,6 +33,7 @@ fn status_in(rest: &[u8]) -> Option<i32>
 }
 
 impl CEReg {
+    #[tactic(auto, unfolding(text::specs::Reading::only, text::specs::Reading::need_else, crate::specs::Registration::cereg_text, crate::specs::Registration::cereg_fields))]
     pub(crate) fn from_checked(line: &[u8]) -> Result<NetworkRegistration, Refusal>
         ensures { says result ≡ cereg_text line.now }
     {
@@ -54,6 +55,7 @@ impl CEReg {
     }
 
     // The answer of `from_checked` with its value forgotten.
+    #[tactic(auto, unfolding(text::specs::Reading::only, text::specs::Reading::need_else, crate::specs::Registration::cereg_text, crate::specs::Registration::cereg_fields))]
     pub(crate) fn refusal_checked(line: &[u8]) -> Result<(), Refusal>
         ensures { refusal_said result ≡ refusal_in (cereg_text line.now) }
     {

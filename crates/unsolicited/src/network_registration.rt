@@ -60,7 +60,7 @@ fn unquoted(rest: &[u8], n: usize) -> &[u8]
 }
 
 // The status in field n, then lac and ci.
-#[tactic(auto, using(crate::proofs::Registrations::status_none))]
+#[tactic(auto, unfolding(text::specs::Reading::need_else, crate::specs::Registration::registration_at, crate::specs::Registration::hex_in))]
 fn registration_at(rest: &[u8], n: usize) -> Result<NetworkRegistration, Refusal>
     requires { n ≤ 1 }
     ensures { says result ≡ registration_at n (fields 44 rest.now) }
@@ -90,6 +90,7 @@ fn status_place(count: usize, longest: usize) -> Option<usize>
 }
 
 // Reads what follows the prefix: one to `longest` fields.
+#[tactic(auto, unfolding(text::specs::Reading::only, text::specs::Reading::either, crate::specs::Registration::registration_fields))]
 pub(crate) fn registration(rest: &[u8], longest: usize) -> Result<NetworkRegistration, Refusal>
     ensures { says result ≡ registration_fields (2 ∷ 5 ∷ longest ∷ []) (fields 44 rest.now) }
 {
@@ -99,6 +100,7 @@ pub(crate) fn registration(rest: &[u8], longest: usize) -> Result<NetworkRegistr
 
 // As `registration`, with every value forgotten: what is unreadable beside the status refuses
 // nothing.
+#[tactic(auto, unfolding(text::specs::Reading::only, text::specs::Reading::either, text::specs::Reading::need_else, crate::specs::Registration::registration_at, crate::specs::Registration::registration_fields))]
 pub(crate) fn refusal(rest: &[u8], longest: usize) -> Result<(), Refusal>
     ensures { refusal_said result
         ≡ refusal_in (registration_fields (2 ∷ 5 ∷ longest ∷ []) (fields 44 rest.now)) }
