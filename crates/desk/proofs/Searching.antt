@@ -9,8 +9,8 @@ use Rattle.std.specs.Prelude as P
 use native.Mathlib.Omega.{arith}
 use native.Mathlib.Numerals.{add-one}
 use lib.ListN.{length, take, drop, get_or, set, length-set, length-drop, drop_of_length-le}
-use borrow.Rule.Slice.PartMut.{put_mid}
-use Rattle.std.proofs.lemmas.Slice.{put_mid-paste}
+use Rattle.text.specs.Copy.{LayKeeps}
+use Rattle.text.proofs.Copying.{whole_holds}
 use Rattle.std.proofs.lemmas.List.{take-take, get_or-drop}
 use Rattle.text.proofs.Parts.{index_le}
 use Rattle.text.specs.Bytes.{index_of}
@@ -161,15 +161,18 @@ module _ {s : List ℕ} {len : ℕ} {chunk : List ℕ} {at : ℕ} where
       rw (← step, get_or-drop at chunk n 0, ← add-one n) l
 
   -- the bytes before the first LF of those that have room
-  pub filled_to : {rest part : List ℕ} {most n : ℕ} → length s ≡ 257 → Plain s len (get_or chunk at 0) → len ≤ 256 → at ≤ length chunk → rest ≡ drop at chunk → most ≡ min (length rest) (256 - len)
-      → (n ≤ length (take most rest)) × ((k : ℕ) → k < n → get_or (take most rest) k 0 ≡ 10 → ⊥) → part ≡ take n (take most rest) → Filled s len chunk at n (put_mid len (len + n - len) s part)
-  filled_to {rest} {part} {most} {n} full p room more rest_is most_is is part_is =
+  pub filled_to : {rest after : List ℕ} {most n e : ℕ} → length s ≡ 257 → Plain s len (get_or chunk at 0) → len ≤ 256 → at ≤ length chunk → rest ≡ drop at chunk → most ≡ min (length rest) (256 - len)
+      → (n ≤ length (take most rest)) × ((k : ℕ) → k < n → get_or (take most rest) k 0 ≡ 10 → ⊥) → LayKeeps (take n (take most rest)) len s e after → Filled s len chunk at n after
+  filled_to {rest} {after} {most} {n} {e} full p room more rest_is most_is is lays =
       let d_long : length rest ≡ length chunk - at = ap length rest_is ∙ length-drop at chunk in
       let size : length (take most rest) ≡ most = length-take-le most rest (omega arith) in
       let few : n ≤ most = omega (arith, is.0) in
       let other : (k : ℕ) → k < n → get_or chunk (at + k) 0 ≡ 10 → ⊥ =
       λ k h e. is.1 k h (get_or-take most rest k 0 (omega arith) ∙ ap (λ (l : List ℕ). get_or l k 0) rest_is ∙ get_or-drop at chunk k 0 ∙ e) in
-      let laid : put_mid len (len + n - len) s part ≡ paste s len (drop at chunk) n =
-      put_mid-paste len (len + n - len) s part (take n rest) n (part_is ∙ take-take n most rest few) (omega arith) (sym (length-take-le n rest (omega arith)))
-      ∙ ap (λ (l : List ℕ). take len s ++ l ++ drop (len + n) s) (take-take n n rest (omega arith) ∙ ap (take n) rest_is) in
+      let piece : take n (take most rest) ≡ take n (drop at chunk) = take-take n most rest few ∙ ap (take n) rest_is in
+      let long : length (take n (take most rest)) ≡ n = length-take-le n (take most rest) is.0 in
+      let laid : after ≡ paste s len (drop at chunk) n =
+      whole_holds (take n (take most rest)) len s e after (omega arith) lays
+      ∙ ap (λ (m : ℕ). take len s ++ take n (take most rest) ++ drop (len + m) s) long
+      ∙ ap (λ (l : List ℕ). take len s ++ l ++ drop (len + n) s) piece in
       rw laid (laid_all n full p (omega arith) (omega arith) other).filled

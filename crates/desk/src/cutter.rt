@@ -6,7 +6,7 @@ ghost use Rattle.desk.specs.Desk.{view_of, buffered};
 ghost use Rattle.desk.specs.Search.{tray_of, found_after, Filled, Plain, Past};
 ghost use Rattle.desk.specs.Says.{found_line, pushed_says, found_says};
 
-use text::bytes;
+use text::{bytes, copy};
 
 // What ends a feed: a line past its length, or the first bytes of the buffer, so many.
 #[derive(Clone, Copy)]
@@ -121,7 +121,7 @@ fn before_lf(s: &[u8]) -> usize
     ensures few { result ≤ length s.now }
     ensures clear { (k : ℕ) → k < result → slice_index s.now k ≡ 10 → ⊥ }
 {
-    bytes::find(s, 0, b'\n')
+    memchr::memchr(b'\n', s).unwrap_or(s.len())
 }
 
 // Lays the bytes of chunk from at on behind the len that are held, up to an LF, the 256th byte or the chunk's end, and says how many.
@@ -135,7 +135,7 @@ fn fill(line: &mut [u8; 257], len: usize, chunk: &[u8], at: usize) -> usize
     let rest = &chunk[at..];
     let part = &rest[..rest.len().min(256 - len)];
     let n = before_lf(part);
-    line[len..len + n].copy_from_slice(&part[..n]);
+    let _end = copy::lay(&part[..n], len, line);
     n
 }
 
