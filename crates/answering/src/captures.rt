@@ -3,6 +3,7 @@ use crate::commands::LONGEST;
 use crate::show::{Hex, refused};
 use crate::{Answer, commands, hex};
 use at_command::request::{Encoded, Request};
+use console::word::Word;
 use desk::{Command, Cutter, Desk, Event, FedAnswer};
 use std::io;
 use std::io::Write;
@@ -192,7 +193,7 @@ fn told(answer: FedAnswer, text: &[u8], out: &mut impl Write) -> io::Result<()> 
 
 // The event's word, the ordinal of its line, a stray's number, and the line.
 fn heard(event: Event, ordinal: u32, line: &[u8], out: &mut impl Write) -> io::Result<()> {
-    write!(out, "{} {ordinal}", word(event))?;
+    write!(out, "{} {ordinal}", Word(event))?;
     if let Event::Stray(number) = event {
         write!(out, " {number}")?;
     }
@@ -200,17 +201,4 @@ fn heard(event: Event, ordinal: u32, line: &[u8], out: &mut impl Write) -> io::R
         write!(out, " {}", Hex(line))?;
     }
     writeln!(out)
-}
-
-fn word(event: Event) -> &'static str {
-    match event {
-        Event::Overlong => "overlong",
-        Event::Stray(_) => "stray",
-        Event::Failed => "failed",
-        Event::Taken => "taken",
-        Event::Done => "done",
-        Event::Short => "short",
-        Event::Unsolicited => "unsolicited",
-        Event::Echo => "echo",
-    }
 }
