@@ -1,12 +1,13 @@
 // Plays a capture on a desk of its own: a line of steps, in the script language of oracle/README.md. Each event is printed on a line of its own.
 use crate::commands::LONGEST;
-use crate::show::{Hex, refused};
+use crate::show::{Hex, Refused};
 use crate::{Answer, commands, hex};
-use at_command::request::{Encoded, Request};
-use console::word::Word;
-use desk::{Command, Cutter, Desk, Event, FedAnswer};
+use at_command::request::Request;
+use console::said::Said;
+use desk::{Desk, Feed, Heard, State};
 use std::io;
 use std::io::Write;
+use text::refusal::Refusal;
 use text::{field, part};
 
 #[derive(Clone, Copy)]
@@ -24,10 +25,11 @@ impl Answer for Captures {
         for step in steps {
             session.step(step, out)?;
         }
-        out.write_all(match session.desk.command {
-            Command::Idle => b"end idle",
-            Command::One(_) | Command::Two(_, _) => b"end open",
-        })
+        let end = match session.desk.state.command {
+            Some(_) => "open",
+            None => "idle",
+        };
+        write!(out, "end {end}")
     }
 }
 
@@ -54,14 +56,9 @@ impl Session {
     fn aged(byte: u8) -> Session {
         Session {
             desk: Desk {
-                cutter: Cutter {
-                    line: [byte; 257],
-                    len: 0,
-                },
-                command: Command::Idle,
+                line: [byte; 257],
                 sent: [byte; 210],
-                echo: 0,
-                counted: 0,
+                state: State::default(),
             },
             text: [byte; 256],
             command: [byte; 256],
@@ -90,10 +87,11 @@ impl Session {
             return unknown(out);
         };
         match (letter, given) {
-            (b'f', chunk) => self.feed(chunk, out),
-            (b's', chunk) => self.feed_short(chunk, out),
-            (b'o', asked) => self.open(asked, false, out),
-            (b'e', asked) => self.open(asked, true, out),
+            (b'f', chunk) => self.feed_all(chunk, out),
+            // with a text buffer that is a byte too short
+            (b's', chunk) => self.feed(chunk, 255, out).map(|_| ()),
+            (b'o', asked) => self.open(asked, Desk::open_lent, out),
+            (b'e', asked) => self.open(asked, Desk::open_echo_lent, out),
             (b'l', [room]) => {
                 self.room = usize::from(*room);
                 Ok(())
@@ -109,50 +107,54 @@ impl Session {
     }
 
     // Feeds a chunk, event by event, until all its bytes are taken.
-    fn feed(&mut self, chunk: &[u8], out: &mut impl Write) -> io::Result<()> {
+    fn feed_all(&mut self, chunk: &[u8], out: &mut impl Write) -> io::Result<()> {
         let mut rest = chunk;
         // each feed takes a byte
         for _ in 0..chunk.len() {
             if rest.is_empty() {
                 break;
             }
-            let answer = self.desk.feed_lent(rest, &mut self.text);
-            told(answer, &self.text, out)?;
-            rest = part::skip(rest, taken_by(answer, rest.len()));
+            let taken = self.feed(rest, 256, out)?;
+            rest = part::skip(rest, taken);
         }
         Ok(())
     }
 
-    // One feed with a text buffer that is a byte too short.
-    fn feed_short(&mut self, chunk: &[u8], out: &mut impl Write) -> io::Result<()> {
+    // One feed, which is lent so many bytes for the text. Says how many it took, all where it is refused.
+    fn feed(&mut self, chunk: &[u8], room: usize, out: &mut impl Write) -> io::Result<usize> {
         let Session { desk, text, .. } = self;
         let text = &mut text[..];
-        let short = text.len() - 1;
-        let answer = desk.feed_lent(chunk, &mut text[..short]);
-        told(answer, text, out)
+        let room = room.min(text.len());
+        match desk.feed_lent(chunk, &mut text[..room]) {
+            Ok(Feed { taken, heard: None }) => Ok(taken),
+            Ok(Feed { taken, heard: Some(heard) }) => {
+                say(heard, text, out)?;
+                Ok(taken)
+            }
+            Err(refusal) => {
+                writeln!(out, "{}", Refused(refusal))?;
+                Ok(chunk.len())
+            }
+        }
     }
 
-    fn open(&mut self, asked: &[u8], echo: bool, out: &mut impl Write) -> io::Result<()> {
+    // Opens a request, in one mode or the other.
+    fn open<F>(&mut self, asked: &[u8], open: F, out: &mut impl Write) -> io::Result<()>
+    where
+        F: FnOnce(&mut Desk, Request, &[u8], &[u8], &mut [u8]) -> Result<usize, Refusal>,
+        requires { F.IsAlwaysCallable open }
+    {
         let Some(request) = commands::request_of(asked) else {
             return unknown(out);
         };
         let first = field::field(asked, b'\t', 1);
         let second = field::field(asked, b'\t', 2);
-        let room = self.room.min(256);
-        let Session { desk, command, .. } = self;
+        let Session { desk, command, room, .. } = self;
         let command = &mut command[..];
-        let lent = &mut command[..room];
-        let answer = if echo {
-            desk.open_echo_lent(request, first, second, lent)
-        } else {
-            desk.open_lent(request, first, second, lent)
-        };
-        match answer {
-            Encoded::Refused(k) => {
-                refused(out, k)?;
-                writeln!(out)
-            }
-            Encoded::Size(n) => writeln!(out, "open {}", Hex(part::part(command, 0, n))),
+        let room = (*room).min(command.len());
+        match open(desk, request, first, second, &mut command[..room]) {
+            Ok(n) => writeln!(out, "open {}", Hex(part::part(command, 0, n))),
+            Err(refusal) => writeln!(out, "{}", Refused(refusal)),
         }
     }
 }
@@ -161,44 +163,11 @@ fn unknown(out: &mut impl Write) -> io::Result<()> {
     writeln!(out, "unknown")
 }
 
-// The bytes that an answer tells as taken; all are where it is a refusal.
-fn taken_by(answer: FedAnswer, all: usize) -> usize {
-    match answer {
-        FedAnswer::Refused(_) => all,
-        FedAnswer::Quiet(taken) => taken,
-        FedAnswer::Heard {
-            event: _,
-            ordinal: _,
-            taken,
-            size: _,
-        } => taken,
-    }
-}
-
-fn told(answer: FedAnswer, text: &[u8], out: &mut impl Write) -> io::Result<()> {
-    match answer {
-        FedAnswer::Refused(k) => {
-            refused(out, k)?;
-            writeln!(out)
-        }
-        FedAnswer::Quiet(_) => Ok(()),
-        FedAnswer::Heard {
-            event,
-            ordinal,
-            taken: _,
-            size,
-        } => heard(event, ordinal, part::part(text, 0, size), out),
-    }
-}
-
-// The event's word, the ordinal of its line, a stray's number, and the line.
-fn heard(event: Event, ordinal: u32, line: &[u8], out: &mut impl Write) -> io::Result<()> {
-    write!(out, "{} {ordinal}", Word(event))?;
-    if let Event::Stray(number) = event {
-        write!(out, " {number}")?;
-    }
-    if !line.is_empty() {
-        write!(out, " {}", Hex(line))?;
+// What a desk heard, and its line.
+fn say(heard: Heard, text: &[u8], out: &mut impl Write) -> io::Result<()> {
+    write!(out, "{}", Said(heard))?;
+    if 0 < heard.size {
+        write!(out, " {}", Hex(part::part(text, 0, heard.size)))?;
     }
     writeln!(out)
 }

@@ -1,11 +1,12 @@
 // Writes commands: for a request, its fields parted by one TAB, the command's bytes, `refused` and the number, or `unknown` where the line is no request.
 // A CR is a byte of the request.
-use crate::show::refused;
-use crate::{Answer, old};
+use crate::Answer;
+use crate::show::Refused;
 use at_command::cmgf::SmsMessageFormat;
 use at_command::request::Request;
+use std::io;
 use std::io::Write;
-use text::{field, part};
+use text::{field, number, part};
 
 // A longer line is unknown: of one that long some bytes may be gone (see console::input).
 pub(crate) const LONGEST: usize = 32767;
@@ -14,7 +15,7 @@ pub(crate) const LONGEST: usize = 32767;
 pub struct Commands;
 
 impl Answer for Commands {
-    fn answer<W: Write>(&self, line: &[u8], out: &mut W) -> std::io::Result<()> {
+    fn answer<W: Write>(&self, line: &[u8], out: &mut W) -> io::Result<()> {
         match request_of(line) {
             Some(request) if line.len() <= LONGEST => command(out, request, line),
             _ => write!(out, "unknown"),
@@ -80,23 +81,23 @@ fn set_format(format: &[u8]) -> Option<Request> {
 }
 
 fn read_sms(index: &[u8]) -> Option<Request> {
-    let index = old::parse_u8(index)?;
+    let index = number::parse_u8(index)?;
     Some(Request::ReadSms { index })
 }
 
 fn synchronize(timezone: &[u8], cid: &[u8]) -> Option<Request> {
-    let timezone = old::parse_u16(timezone)?;
-    let cid = old::parse_u8(cid)?;
+    let timezone = number::parse_u16(timezone)?;
+    let cid = number::parse_u8(cid)?;
     Some(Request::SynchronizeNetworkTime { timezone, cid })
 }
 
 // The texts of a request are its first fields.
-fn command(out: &mut impl Write, request: Request, line: &[u8]) -> std::io::Result<()> {
+fn command(out: &mut impl Write, request: Request, line: &[u8]) -> io::Result<()> {
     let mut command = [0u8; 256];
     let first = field::field(line, b'\t', 1);
     let second = field::field(line, b'\t', 2);
-    match old::encode(request, first, second, &mut command) {
+    match request.encode(first, second, &mut command) {
         Ok(n) => out.write_all(part::part(&command, 0, n)),
-        Err(refusal) => refused(out, refusal),
+        Err(refusal) => write!(out, "{}", Refused(refusal)),
     }
 }

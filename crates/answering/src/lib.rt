@@ -10,7 +10,6 @@ mod captures;
 mod commands;
 mod hex;
 mod lines;
-mod old;
 mod show;
 mod vectors;
 

@@ -1,15 +1,12 @@
 // Says what a line says, in the formats of oracle/README.md. One CR at its end goes.
-use crate::show::{Bits, OrNone, quoted, refused};
-use crate::{Answer, old};
+use crate::Answer;
+use crate::show::{Bits, OrNone, Refused, quoted};
 use at_command::ResponseCode;
-use at_command::cntp::{NetworkTime, TimePlace};
-use at_command::cops::OperatorName;
-use at_command::csq::SignalLevel;
 use at_command::generic_response::SimError;
 use std::io;
 use std::io::Write;
-use text::part;
 use text::part::Place;
+use text::{handed, part};
 use trial::{Line, straight};
 use unsolicited::Urc;
 use unsolicited::network_registration::NetworkRegistration;
@@ -22,10 +19,10 @@ impl Answer for Lines {
     fn answer<W: Write>(&self, line: &[u8], out: &mut W) -> io::Result<()> {
         let line = line.strip_suffix(b"\r").unwrap_or(line);
         match straight::said(line) {
-            Line::Response(code) => response(out, line, code),
-            Line::Unsolicited(Urc::GnssReport(report)) => gnss_report(out, report),
-            Line::Unsolicited(Urc::NetworkRegistration(r)) => registration(out, r),
-            Line::Refused(refusal) => refused(out, refusal),
+            Ok(Line::Response(code)) => response(out, line, code),
+            Ok(Line::Unsolicited(Urc::GnssReport(report))) => gnss_report(out, report),
+            Ok(Line::Unsolicited(Urc::NetworkRegistration(found))) => registration(out, found),
+            Err(refusal) => write!(out, "{}", Refused(refusal)),
         }
     }
 }
@@ -38,41 +35,39 @@ fn response(out: &mut impl Write, line: &[u8], code: ResponseCode) -> io::Result
         ResponseCode::CloseOk(close) => write!(out, "CloseOk {}", close.connection),
         ResponseCode::Iccid(id) => write!(out, "Iccid {} {} {}", id.country, id.issuer, id.account),
         ResponseCode::SignalQuality(quality) => {
-            let strength = level(quality.signal_strength);
-            let errors = level(quality.signal_quality);
+            let strength = OrNone(quality.signal_strength.map(Bits));
+            let errors = OrNone(quality.signal_quality.map(Bits));
             write!(out, "SignalQuality {strength} {errors}")
         }
         ResponseCode::SystemInfo(info) => {
-            let system = old::system_mode(info.system_mode);
-            let operation = old::operation_mode(info.operation_mode);
-            write!(out, "SystemInfo {system} {operation}")
+            let system = info.system_mode;
+            let operation = info.operation_mode;
+            write!(out, "SystemInfo {system:?} {operation:?}")
         }
         ResponseCode::OperatorInfo(info) => {
-            let mode = old::operator_mode(info.mode);
-            let format = old::operator_format(info.format);
-            let name = info.operator_name;
-            write!(out, "OperatorInfo {mode} {format} ")?;
-            match name {
-                OperatorName::InLine(place) => quoted(out, text(line, place)),
-                // the trial's is empty
-                OperatorName::InFallback(_) => quoted(out, b""),
+            let mode = info.mode;
+            let format = info.format;
+            write!(out, "OperatorInfo {mode:?} {format:?} ")?;
+            quoted(out, handed::cut(info.operator_name, line, b""))
+        }
+        ResponseCode::NetworkTime(time) => {
+            let code = time.code;
+            write!(out, "NetworkTime {code:?} ")?;
+            match time.time {
+                Some(place) => quoted(out, text(line, place)),
+                None => write!(out, "none"),
             }
         }
-        ResponseCode::NetworkTime(time) => network_time(out, line, time),
         ResponseCode::DownloadInfo(info) => {
-            let status = old::status_code_word(info.status_code);
-            write!(out, "DownloadInfo {status} {}", info.data_length)
+            let status = info.status_code;
+            write!(out, "DownloadInfo {status:?} {}", info.data_length)
         }
         ResponseCode::Imei(id) => {
             let version = if id.is_version_number { "version " } else { "" };
             write!(out, "Imei {version}")?;
             quoted(out, text(line, id.imei))
         }
-        ResponseCode::SmsMessageFormat(format) => write!(
-            out,
-            "SmsMessageFormat {}",
-            old::sms_message_format(format)
-        ),
+        ResponseCode::SmsMessageFormat(format) => write!(out, "SmsMessageFormat {format:?}"),
         ResponseCode::SmsMessage(message) => {
             write!(out, "SmsMessage ")?;
             quoted(out, text(line, message.sender))
@@ -84,10 +79,6 @@ fn text(line: &[u8], place: Place) -> &[u8] {
     part::part(line, place.start, place.end)
 }
 
-fn level(level: SignalLevel) -> OrNone<Bits> {
-    OrNone(old::level(level).map(Bits))
-}
-
 fn sim_error(out: &mut impl Write, error: SimError) -> io::Result<()> {
     match error {
         SimError::Generic => write!(out, "SimError Generic"),
@@ -96,28 +87,18 @@ fn sim_error(out: &mut impl Write, error: SimError) -> io::Result<()> {
     }
 }
 
-fn network_time(out: &mut impl Write, line: &[u8], time: NetworkTime) -> io::Result<()> {
-    let code = old::sync_ntp_status_code(time.code);
-    let place = time.time;
-    write!(out, "NetworkTime {code} ")?;
-    match place {
-        TimePlace::Some(place) => quoted(out, text(line, place)),
-        TimePlace::None => write!(out, "none"),
-    }
-}
-
 fn registration(out: &mut impl Write, registration: NetworkRegistration) -> io::Result<()> {
-    let status = old::registration_status(registration.status);
-    let lac = OrNone(old::option_u16(registration.lac));
-    let ci = OrNone(old::option_u32(registration.ci));
-    write!(out, "NetworkRegistration {status} {lac} {ci}")
+    let status = registration.status;
+    let lac = OrNone(registration.lac);
+    let ci = OrNone(registration.ci);
+    write!(out, "NetworkRegistration {status:?} {lac} {ci}")
 }
 
 fn gnss_report(out: &mut impl Write, report: GnssReport) -> io::Result<()> {
     match report {
         GnssReport::NotEnabled => write!(out, "GnssReport NotEnabled"),
         GnssReport::NoFix { sat_gps_view } => {
-            let view = OrNone(old::option_u32(sat_gps_view));
+            let view = OrNone(sat_gps_view);
             write!(out, "GnssReport NoFix {view}")
         }
         GnssReport::Fix(fix) => gnss_fix(out, fix),

@@ -1,10 +1,12 @@
 // How the programs print a value.
 use std::fmt;
 use std::fmt::Display;
+use std::io;
 use std::io::Write;
+use text::refusal::Refusal;
 
 // A value, or `none` where the line lacks it.
-#[derive(Drop)]
+#[derive(Clone, Copy)]
 pub(crate) struct OrNone<T>(pub(crate) Option<T>);
 
 impl<T: Display> Display for OrNone<T> {
@@ -39,13 +41,19 @@ impl Display for Hex<'_> {
     }
 }
 
+// A refusal, by its number.
+#[derive(Clone, Copy)]
+pub(crate) struct Refused(pub(crate) Refusal);
+
+impl Display for Refused {
+    fn fmt<W: fmt::Write>(&self, f: &mut fmt::Formatter<W>) -> fmt::Result {
+        write!(f, "refused {}", self.0.number())
+    }
+}
+
 // A text in quotes, its bytes as they are.
-pub(crate) fn quoted(out: &mut impl Write, text: &[u8]) -> std::io::Result<()> {
+pub(crate) fn quoted(out: &mut impl Write, text: &[u8]) -> io::Result<()> {
     out.write_all(b"\"")?;
     out.write_all(text)?;
     out.write_all(b"\"")
-}
-
-pub(crate) fn refused(out: &mut impl Write, refusal: u8) -> std::io::Result<()> {
-    write!(out, "refused {refusal}")
 }

@@ -4,4 +4,4 @@
 
 pub mod input;
 pub mod output;
-pub mod word;
+pub mod said;
