@@ -6,13 +6,14 @@ ghost use Rattle.desk.specs.Desk.{after_bytes};
 ghost use Rattle.desk.specs.Says.{state_of, answer_says};
 ghost use Rattle.desk.specs.Demand.{taken_by};
 
-use at_command::{Encoded, Request};
+use at_command::request::Request;
 use console::output::Output;
-use console::word::Word;
-use desk::{Command, Desk, Event, FedAnswer};
+use console::said::Said;
+use desk::{Desk, Event, Feed, Heard};
 use std::io;
 use std::io::{Input, Print, Read, Write};
 use text::part;
+use text::refusal::Refusal;
 
 #[derive(Clone, Copy)]
 pub enum Mode {
@@ -22,7 +23,7 @@ pub enum Mode {
 
 impl Mode {
     // Opens AT+CSQ on a desk.
-    fn open(self, desk: &mut Desk, out: &mut [u8]) -> Encoded {
+    fn open(self, desk: &mut Desk, out: &mut [u8]) -> Result<usize, Refusal> {
         match self {
             Mode::Plain => desk.open_lent(Request::GetSignalQuality, b"", b"", out),
             Mode::Echo => desk.open_echo_lent(Request::GetSignalQuality, b"", b"", out),
@@ -30,40 +31,34 @@ impl Mode {
     }
 }
 
-// A line of bytes as they are, behind a word.
+// Bytes as they are, and the line's end.
 fn line(out: &mut impl Write, bytes: &[u8]) -> io::Result<()> {
     out.write_all(bytes)?;
     writeln!(out)
 }
 
-// An event's word, the ordinal of its line, a stray's number, and the line.
-fn say(out: &mut impl Write, event: Event, ordinal: u32, bytes: &[u8]) -> io::Result<()> {
-    let word = Word(event);
-    match event {
-        Event::Overlong => return writeln!(out, "{word} {ordinal}"),
-        Event::Stray(number) => write!(out, "{word} {ordinal} {number} ")?,
-        _ => write!(out, "{word} {ordinal} ")?,
+// What the desk heard, with its line.
+fn say(out: &mut impl Write, heard: Heard, text: &[u8]) -> io::Result<()> {
+    write!(out, "{}", Said(heard))?;
+    if let Event::Overlong = heard.event {
+        return writeln!(out);
     }
-    line(out, bytes)
+    write!(out, " ")?;
+    line(out, part::part(text, 0, heard.size))
 }
 
-// Says what an answer tells, and answers how many bytes were taken. An error is the writer's.
-fn told<W: Write>(out: &mut W, answer: FedAnswer, text: &[u8]) -> io::Result<usize>
+// Says what a feed tells, and answers how many bytes were taken. An error is the writer's.
+fn told<W: Write>(out: &mut W, answer: Result<Feed, Refusal>, text: &[u8]) -> io::Result<usize>
     ensures { IfOk result (λ n. n ≡ taken_by (answer_says answer)) }
 {
     match answer {
-        // never: text has room for every line
-        FedAnswer::Refused(_) => Ok(0),
-        FedAnswer::Quiet(taken) => Ok(taken),
-        FedAnswer::Heard {
-            event,
-            ordinal,
-            taken,
-            size,
-        } => {
-            say(out, event, ordinal, part::part(text, 0, size))?;
+        Ok(Feed { taken, heard: Some(heard) }) => {
+            say(out, heard, text)?;
             Ok(taken)
         }
+        Ok(Feed { taken, heard: None }) => Ok(taken),
+        // never: text has room for every line
+        Err(_) => Ok(0),
     }
 }
 
@@ -72,21 +67,22 @@ fn told<W: Write>(out: &mut W, answer: FedAnswer, text: &[u8]) -> io::Result<usi
 fn drain<W: Write>(out: &mut W, desk: Desk, chunk: &[u8]) -> io::Result<Desk>
     ensures { IfOk result (λ d. state_of d ≡ after_bytes (state_of desk) chunk.now) }
 {
-    let mut d = desk;
+    let mut desk = desk;
     let mut text = [0u8; 256];
-    let mut at = 0;
-    while at < chunk.len() {
-        let answer = d.feed_lent(part::skip(chunk, at), &mut text);
-        at += told(out, answer, &text)?;
+    let mut rest = chunk;
+    while !rest.is_empty() {
+        let answer = desk.feed_lent(rest, &mut text);
+        let taken = told(out, answer, &text)?;
+        rest = &rest[taken..];
     }
-    Ok(d)
+    Ok(desk)
 }
 
 // What is read is answered at once.
 fn show<R: Read, W: Write>(reader: &mut R, out: &mut W, mode: Mode) -> io::Result<()> {
     let mut desk = Desk::new();
     let mut command = [0u8; 256];
-    let Encoded::Size(n) = mode.open(&mut desk, &mut command) else {
+    let Ok(n) = mode.open(&mut desk, &mut command) else {
         return Ok(());
     };
     let sent = part::part(&command, 0, n);
@@ -103,10 +99,7 @@ fn show<R: Read, W: Write>(reader: &mut R, out: &mut W, mode: Mode) -> io::Resul
         desk = drain(out, desk, &buffer[..n])?;
         out.flush()?;
     }
-    let end = match desk.command {
-        Command::Idle => "idle",
-        Command::One(_) | Command::Two(_, _) => "open",
-    };
+    let end = if desk.state.command.is_some() { "open" } else { "idle" };
     writeln!(out, "end {end}")?;
     out.flush()
 }
