@@ -73,7 +73,7 @@ fn drain<W: Write>(out: &mut W, desk: Desk, chunk: &[u8]) -> io::Result<Desk>
     while !rest.is_empty() {
         let answer = desk.feed_lent(rest, &mut text);
         let taken = told(out, answer, &text)?;
-        rest = &rest[taken..];
+        rest = part::skip(rest, taken);
     }
     Ok(desk)
 }
