@@ -6,7 +6,7 @@ use at_command::cmgf::SmsMessageFormat;
 use at_command::request::Request;
 use std::io;
 use std::io::Write;
-use text::{field, number, part};
+use text::{bytes, field, number, part};
 
 // A longer line is unknown: of one that long some bytes may be gone (see console::input).
 pub(crate) const LONGEST: usize = 32767;
@@ -23,14 +23,23 @@ impl Answer for Commands {
     }
 }
 
+// The request that a line asks for: its name, and so many fields behind it.
 pub(crate) fn request_of(line: &[u8]) -> Option<Request> {
     let mut fields = line.split(|byte| *byte == b'\t');
     let name = fields.next()?;
     match (fields.next(), fields.next(), fields.next(), fields.next()) {
         (None, ..) => without_fields(name),
         (Some(argument), None, ..) => with_one(name, argument),
-        (Some(_), Some(_), None, _) => with_two(name),
-        (Some(_), Some(timezone), Some(cid), None) => with_three(name, timezone, cid),
+        (Some(_), Some(_), None, _) if bytes::is_text(name, b"DownloadToFileSystem") => {
+            Some(Request::DownloadToFileSystem)
+        }
+        (Some(_), Some(timezone), Some(cid), None)
+            if bytes::is_text(name, b"SynchronizeNetworkTime") =>
+        {
+            let timezone = number::parse_u16(timezone)?;
+            let cid = number::parse_u8(cid)?;
+            Some(Request::SynchronizeNetworkTime { timezone, cid })
+        }
         _ => None,
     }
 }
@@ -52,43 +61,18 @@ fn without_fields(name: &[u8]) -> Option<Request> {
 fn with_one(name: &[u8], argument: &[u8]) -> Option<Request> {
     match name {
         b"SetManualOperator" => Some(Request::SetManualOperator),
-        b"SetSmsMessageFormat" => set_format(argument),
-        b"ReadSms" => read_sms(argument),
+        b"SetSmsMessageFormat" => message_format(argument).map(Request::SetSmsMessageFormat),
+        b"ReadSms" => number::parse_u8(argument).map(|index| Request::ReadSms { index }),
         _ => None,
     }
 }
 
-fn with_two(name: &[u8]) -> Option<Request> {
-    match name {
-        b"DownloadToFileSystem" => Some(Request::DownloadToFileSystem),
+fn message_format(text: &[u8]) -> Option<SmsMessageFormat> {
+    match text {
+        b"Pdu" => Some(SmsMessageFormat::Pdu),
+        b"Text" => Some(SmsMessageFormat::Text),
         _ => None,
     }
-}
-
-fn with_three(name: &[u8], timezone: &[u8], cid: &[u8]) -> Option<Request> {
-    match name {
-        b"SynchronizeNetworkTime" => synchronize(timezone, cid),
-        _ => None,
-    }
-}
-
-fn set_format(format: &[u8]) -> Option<Request> {
-    match format {
-        b"Pdu" => Some(Request::SetSmsMessageFormat(SmsMessageFormat::Pdu)),
-        b"Text" => Some(Request::SetSmsMessageFormat(SmsMessageFormat::Text)),
-        _ => None,
-    }
-}
-
-fn read_sms(index: &[u8]) -> Option<Request> {
-    let index = number::parse_u8(index)?;
-    Some(Request::ReadSms { index })
-}
-
-fn synchronize(timezone: &[u8], cid: &[u8]) -> Option<Request> {
-    let timezone = number::parse_u16(timezone)?;
-    let cid = number::parse_u8(cid)?;
-    Some(Request::SynchronizeNetworkTime { timezone, cid })
 }
 
 // The texts of a request are its first fields.
