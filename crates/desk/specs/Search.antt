@@ -1,32 +1,18 @@
 -- What the private functions of a feed say: a search from a tray, bytes laid in it, bytes with no LF among them, and what is made of a line.
-use Rattle.std.specs.Prelude.{ℕ, ◌+◌, ◌-◌, ◌≤◌, ◌<◌, ◌≡◌, Bool, true, false, List, [], ◌∷◌, ◌++◌, length, drop, get_or}
+use Rattle.std.specs.Prelude.{ℕ, ◌+◌, ◌-◌, ◌≤◌, ◌<◌, ◌≡◌, Bool, false, List, [], ◌∷◌, ◌++◌, length, drop, get_or}
 use Rattle.std.proofs.Math.Option.{Option, map}
 use Rattle.text.specs.Reading.{Reading, read}
-use Rattle.desk.specs.Cut.{Piece, nothing, blank, overlong, line, bare, long as too_long, cut_one}
+use Rattle.at_command.specs.Kind.{Kind}
+use Rattle.desk.specs.Cut.{bare, long as too_long}
 use Rattle.desk.specs.Machine.{Stop, feed, command_of, event_of}
 use Rattle.desk.specs.Ordinal.{numbered}
 use Rattle.desk.specs.Lines.{Line}
 use Rattle.desk.specs.Lines as L
-use Rattle.desk.specs.Judge.{Event}
-use Rattle.desk.specs.Desk.{Tray, view_of, lay_one, buffered, Kept, judge_kept, Heard, heard_of, text_of}
+use Rattle.desk.specs.Judge.{Event, Ruling, takes_next}
+use Rattle.desk.specs.Desk.{Tray, buffered, Kept, judge_kept, Heard, heard_of, text_of}
 
 abbrev pub tray_of : List ℕ → ℕ → Tray
 tray_of bytes len = record { bytes = bytes; len = len }
-
--- one byte
-pub record Pushed : Type 0 where
-  pub tray : Tray
-  pub piece : Piece
-
-abbrev pub push_one : Tray → ℕ → Pushed
-push_one t b = record { tray = lay_one t b; piece = (cut_one (view_of t) b).piece }
-
--- where a feed stops
-abbrev pub stops : Piece → Bool
-stops nothing = false
-stops blank = false
-stops overlong = true
-stops (line l) = true
 
 -- a search through a chunk, n bytes having been taken before it
 abbrev pub found_after : ℕ → Tray → List ℕ → Stop Tray Line
@@ -39,32 +25,20 @@ pub record Filled (bytes : List ℕ) (len : ℕ) (chunk : List ℕ) (at n : ℕ)
   pub long : length after ≡ length bytes
   pub on : found_after at (tray_of bytes len) (drop at chunk) ≡ found_after (at + n) (tray_of after (len + n)) (drop (at + n) chunk)
 
--- no LF among n bytes of s from at on
-pub record Clear (s : List ℕ) (at n : ℕ) : Type 0 where
-  pub none : (k : ℕ) → k < n → get_or s (at + k) 0 ≡ 10 → ⊥
-
 -- b behind the first len of the bytes is no part of a prompt, nor is any byte after it: the line's first byte is no '>', or it is too late for one
 pub record Plain (bytes : List ℕ) (len b : ℕ) : Type 0 where
   pub first : len ≡ 0 → b ≡ 62 → ⊥
   pub second : len ≡ 1 → get_or bytes 0 0 ≡ 62 → ⊥
 
--- n bytes of chunk from at on have room behind the first len of the bytes, and none of them can make a prompt
-pub record Room (bytes : List ℕ) (len : ℕ) (chunk : List ℕ) (at n : ℕ) : Type 0 where
-  pub long : length bytes ≡ 257
-  pub fits : len + n ≤ 256
-  pub some : at + n ≤ length chunk
-  pub plain : Plain bytes len (get_or chunk at 0)
-
--- n bytes, of the most that had room, are held, and no prompt can come of the next either
-pub record Laid (bytes : List ℕ) (len : ℕ) (chunk : List ℕ) (at most n : ℕ) (after : List ℕ) : Type 0 where
-  pub within : n ≤ most
-  pub filled : Filled bytes len chunk at n after
-  pub plain : Plain after (len + n) (get_or chunk (at + n) 0)
-
 -- r says whether a line of len bytes is past its length with b
 pub record Past (len b : ℕ) (r : Bool) : Type 0 where
   pub few : r ≡ false → len ≤ 256
   pub is : (h : List ℕ) → length h ≡ len → r ≡ too_long (bare (h ++ b ∷ []))
+
+-- of the answers that are awaited next is the first, and taken is what it is once it comes
+pub record Next (awaited : List Kind) (next : Kind) (taken : Ruling) : Type 0 where
+  pub first : awaited ≡ next ∷ drop 1 awaited
+  pub takes : taken ≡ takes_next awaited
 
 -- what a line is, and the command that is kept after it
 abbrev pub Judges : Kept → List ℕ → Kept → Event → Type 0

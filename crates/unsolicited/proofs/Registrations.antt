@@ -9,18 +9,18 @@ use lib.Dec.{eqb, leb}
 use lib.IntN.{ℤ, pos, negsuc}
 use lib.ListN.{length, drop}
 use mir.Syntax.{w32}
-use mir.Val.{SFits, of_z, to_z}
+use mir.Val.{of_z, to_z}
 use Rattle.std.specs.Prelude as Std
-use borrow.Author.Tests.{leb-true, le-leb, lt-ltb, le-ltb}
+use borrow.Author.Tests.{leb-true, lt-ltb, le-ltb}
 use Rattle.text.specs.Bytes.{bytes, starts_with, all_digits}
 use Rattle.text.specs.Part.{among, trimmed}
 use Rattle.text.specs.Field.{fields, nth}
 use Rattle.text.specs.Number.{unsigned, signed}
-use Rattle.text.specs.Reading.{Reading, read, refused, only, either, need, present, refusal_in}
+use Rattle.text.specs.Reading.{Reading, read, refused, only, either, refusal_in}
 use Rattle.text.specs.says.Refusal.{number_of, option_said}
 use Rattle.text.specs.declared.refusal.Refusal.{Refusal}
 use Rattle.text.proofs.Numbers.{read_signed, miss_signed}
-use Rattle.text.proofs.Readings.{via, accepts}
+use Rattle.text.proofs.Readings.{accepts}
 use Rattle.unsolicited.specs.Places.{status_place}
 use Rattle.unsolicited.specs.Registration.{Registration, status_of, hex_in, registration_at, registration_fields, creg_text, cgreg_text, cereg_status, cereg_fields, cereg_text}
 use Rattle.text.proofs.Tests.{never}

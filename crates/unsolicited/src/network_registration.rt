@@ -6,9 +6,9 @@ ghost use Rattle.text.specs.Part.{trimmed};
 ghost use Rattle.text.specs.Reading.{refusal_in};
 ghost use Rattle.text.specs.says.Refusal.{option_said, refusal_said};
 ghost use Rattle.unsolicited.specs.Places.{status_place};
-ghost use Rattle.unsolicited.specs.Registration.{status_of, registration_at};
-ghost use Rattle.unsolicited.specs.Registration.{registration_fields, registration_text};
-ghost use Rattle.unsolicited.specs.says.Registration.{status_number, says, RegistrationKeeps};
+ghost use Rattle.unsolicited.specs.Registration.{registration_at, registration_fields};
+ghost use Rattle.unsolicited.specs.Registration.{registration_text};
+ghost use Rattle.unsolicited.specs.says.Registration.{says, RegistrationKeeps, StatusKeeps};
 
 use crate::cereg::CEReg;
 use crate::cgreg::CGReg;
@@ -35,17 +35,20 @@ pub struct NetworkRegistration {
     pub ci: Option<u32>,
 }
 
-#[tactic(auto, using(crate::proofs::Registrations::by_number))]
-pub(crate) fn status_of(n: i32) -> RegistrationStatus
-    ensures { status_number result ≡ status_of n }
-{
-    match n {
-        1 => RegistrationStatus::RegisteredHome,
-        2 => RegistrationStatus::Searching,
-        3 => RegistrationStatus::RegistrationDenied,
-        4 => RegistrationStatus::Unknown,
-        5 => RegistrationStatus::RegisteredRoaming,
-        _ => RegistrationStatus::NotRegistered,
+impl From<i32> for RegistrationStatus {
+    ghost from_gives = { λ number status. StatusKeeps number status };
+
+    // By its number; every other is as 0.
+    #[tactic(auto, using(crate::proofs::Registrations::by_number))]
+    fn from(number: i32) -> RegistrationStatus {
+        match number {
+            1 => RegistrationStatus::RegisteredHome,
+            2 => RegistrationStatus::Searching,
+            3 => RegistrationStatus::RegistrationDenied,
+            4 => RegistrationStatus::Unknown,
+            5 => RegistrationStatus::RegisteredRoaming,
+            _ => RegistrationStatus::NotRegistered,
+        }
     }
 }
 
@@ -57,14 +60,14 @@ fn unquoted(rest: &[u8], n: usize) -> &[u8]
 }
 
 // The status in field n, then lac and ci.
-#[tactic(auto, using(crate::proofs::Registrations::status_none))]
+#[tactic(auto, unfolding(text::specs::Reading::need_else, crate::specs::Registration::registration_at, crate::specs::Registration::hex_in))]
 fn registration_at(rest: &[u8], n: usize) -> Result<NetworkRegistration, Refusal>
     requires { n ≤ 1 }
     ensures { says result ≡ registration_at n (fields 44 rest.now) }
 {
     let status = number::parse_i32(reader::nth_field(rest, n)).ok_or(Refusal::NotThisLine)?;
     Ok(NetworkRegistration {
-        status: status_of(status),
+        status: RegistrationStatus::from(status),
         lac: number::parse_hex_u16(unquoted(rest, n + 1)),
         ci: number::parse_hex_u32(unquoted(rest, n + 2)),
     })
@@ -87,6 +90,7 @@ fn status_place(count: usize, longest: usize) -> Option<usize>
 }
 
 // Reads what follows the prefix: one to `longest` fields.
+#[tactic(auto, unfolding(text::specs::Reading::only, text::specs::Reading::either, crate::specs::Registration::registration_fields))]
 pub(crate) fn registration(rest: &[u8], longest: usize) -> Result<NetworkRegistration, Refusal>
     ensures { says result ≡ registration_fields (2 ∷ 5 ∷ longest ∷ []) (fields 44 rest.now) }
 {
@@ -96,6 +100,7 @@ pub(crate) fn registration(rest: &[u8], longest: usize) -> Result<NetworkRegistr
 
 // As `registration`, with every value forgotten: what is unreadable beside the status refuses
 // nothing.
+#[tactic(auto, unfolding(text::specs::Reading::only, text::specs::Reading::either, text::specs::Reading::need_else, crate::specs::Registration::registration_at, crate::specs::Registration::registration_fields))]
 pub(crate) fn refusal(rest: &[u8], longest: usize) -> Result<(), Refusal>
     ensures { refusal_said result
         ≡ refusal_in (registration_fields (2 ∷ 5 ∷ longest ∷ []) (fields 44 rest.now)) }

@@ -238,6 +238,7 @@ impl<'a> Fields<'a> {
     }
 
     // The fix, if all its values are readable.
+    #[tactic(auto, unfolding(text::specs::Reading::need_else, crate::specs::Gnss::fix_on))]
     fn fix_on(&self, date_time: DateTime) -> Option<GnssFix>
         ensures { need (option_mapped fix_says result) (λ found. read (fix found))
             ≡ fix_on (date_says date_time) (fields 44 self.now.rest.now) }
@@ -272,6 +273,7 @@ impl<'a> Fields<'a> {
     }
 
     // The date first: 13 where there is none, whatever the other fields are.
+    #[tactic(auto, unfolding(text::specs::Reading::need_else, crate::specs::Gnss::fix_of))]
     fn gnss_fix(&self) -> Result<GnssReport, Refusal>
         ensures { says result ≡ fix_of (fields 44 self.now.rest.now) }
     {
@@ -302,6 +304,7 @@ impl GnssReport {
     ghost use Rattle.unsolicited.specs.says.Gnss.{says, GnssReportKeeps};
 
     // Reads what follows the prefix.
+    #[tactic(auto, unfolding(text::specs::Reading::only, text::specs::Reading::either, crate::specs::Gnss::ugnsinf_fields))]
     fn gnss_report(rest: &[u8]) -> Result<GnssReport, Refusal>
         ensures { says result ≡ ugnsinf_fields (fields 44 rest.now) }
     {
@@ -318,6 +321,7 @@ impl GnssReport {
     }
 
     // As `gnss_report`, with every value forgotten.
+    #[tactic(auto, unfolding(text::specs::Reading::only, text::specs::Reading::either, text::specs::Reading::need_else, crate::specs::Gnss::ugnsinf_fields, crate::specs::Gnss::fix_of))]
     fn report_refusal(rest: &[u8]) -> Result<(), Refusal>
         ensures { refusal_said result ≡ refusal_in (ugnsinf_fields (fields 44 rest.now)) }
     {
@@ -337,6 +341,7 @@ impl GnssReport {
         Ok(())
     }
 
+    #[tactic(auto, unfolding(text::specs::Reading::only, crate::specs::Gnss::ugnsinf_text))]
     pub(crate) fn from_checked(line: &[u8]) -> Result<GnssReport, Refusal>
         ensures { says result ≡ ugnsinf_text line.now }
     {
@@ -353,6 +358,7 @@ impl GnssReport {
     }
 
     // The answer of `from_checked` with its value forgotten.
+    #[tactic(auto, unfolding(text::specs::Reading::only, crate::specs::Gnss::ugnsinf_text))]
     pub(crate) fn refusal_checked(line: &[u8]) -> Result<(), Refusal>
         ensures { refusal_said result ≡ refusal_in (ugnsinf_text line.now) }
     {
