@@ -13,7 +13,7 @@ use Rattle.text.proofs.Tests.{never}
 use Rattle.text.specs.declared.refusal.Refusal.{Refusal}
 use Rattle.text.specs.declared.refusal.Refusal.TheVariants.{NotThisLine}
 
-stripped : (p s : List ℕ) → pointwise eqb (take (length p) s) p ≡ starts_with p s
+pub stripped : (p s : List ℕ) → pointwise eqb (take (length p) s) p ≡ starts_with p s
 unfolding starts_with
 stripped [] s = refl
 stripped (b ∷ p) [] = refl
