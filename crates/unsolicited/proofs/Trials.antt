@@ -10,6 +10,3 @@ use Rattle.text.proofs.Yields.{Yields}
 abbrev pub Plain : {A : Type 0} → Reading A → Type 0
 Plain {A} r = Yields (λ (a : A). Unit {0}) (λ (k : ℕ). k ≡ 3) r
 
--- one that refuses leaves it to those behind it
-pub plain_else : {A : Type 0} (x : Reading A) → Plain x → (rs : List (Reading A)) (q : Reading A) (k : ℕ) → refused k ≡ x → q ≡ first_of 3 rs → q ≡ first_of 3 (x ∷ rs)
-plain_else x plain rs q k e h = let z : k ≡ 3 = subst Plain (sym e) plain in first_else 3 x rs k 3 q e (sym z) h
