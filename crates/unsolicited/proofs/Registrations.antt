@@ -3,29 +3,21 @@ use mathlib.Core.Path.{◌≡◌, refl, sym, ap, ◌∙◌}
 use mathlib.Core.Bool.{Bool, true, false, cond, ◌&&◌, ◌||◌, or_self_left, or-false, or_assoc}
 use mathlib.Core.List.{List, [], ◌∷◌}
 use mathlib.Core.Option.{Option, none, some}
-use Prim.Native.Nat.{ℕ, ◌+◌, ◌≤◌, ◌<◌}
+use Prim.Native.Nat.{ℕ, ◌≤◌, ◌<◌}
 use native.Mathlib.Omega.{arith}
 use lib.Dec.{eqb, leb}
 use lib.IntN.{ℤ, pos, negsuc}
 use lib.ListN.{length, drop}
 use mir.Syntax.{w32}
-use mir.Val.{of_z, to_z}
-use Rattle.std.specs.Prelude as Std
+use mir.Val.{of_z}
 use borrow.Author.Tests.{leb-true, lt-ltb, le-ltb}
-use Rattle.text.specs.Bytes.{bytes, starts_with, all_digits}
-use Rattle.text.specs.Part.{among, trimmed}
+use Rattle.text.specs.Bytes.{all_digits}
+use Rattle.text.specs.Part.{among}
 use Rattle.text.specs.Field.{fields, nth}
-use Rattle.text.specs.Number.{unsigned, signed}
-use Rattle.text.specs.Reading.{Reading, read, refused, only, either, refusal_in}
-use Rattle.text.specs.says.Refusal.{number_of, option_said}
-use Rattle.text.specs.declared.refusal.Refusal.{Refusal}
-use Rattle.text.proofs.Numbers.{read_signed, miss_signed}
-use Rattle.text.proofs.Readings.{accepts}
+use Rattle.text.specs.Number.{signed}
 use Rattle.unsolicited.specs.Places.{status_place}
-use Rattle.unsolicited.specs.Registration.{Registration, status_of, hex_in, registration_at, registration_fields, creg_text, cgreg_text, cereg_status, cereg_fields, cereg_text}
-use Rattle.text.proofs.Tests.{never}
+use Rattle.unsolicited.specs.Registration.{status_of, registration_at, registration_fields, creg_text, cgreg_text, cereg_status, cereg_fields, cereg_text}
 use Rattle.text.proofs.Yields.{yields_only, yields_either, yields_need}
-use Rattle.unsolicited.proofs.Stripped.{lacks, has}
 use Rattle.unsolicited.proofs.Trials.{Plain}
 
 -- `status_of`: the five by their numbers, and every other
@@ -68,40 +60,6 @@ five_twice n = ap (λ (t : Bool). eqb n 2 || t) (or_self_left (eqb n 5) false)
 pub fields_five : (fs : List (List ℕ)) → registration_fields (2 ∷ 5 ∷ 5 ∷ []) fs ≡ registration_fields (2 ∷ 5 ∷ []) fs
 unfolding registration_fields
 fields_five fs = rw (five_twice (length fs))
-
--- each behind its prefix, which the line lacks or has
-module _ (s : List ℕ) where
-  pub creg_lacks : (k : Refusal) → starts_with (bytes "+CREG: ") s ≡ false → number_of k ≡ 3 → refused (number_of k) ≡ creg_text s
-  unfolding creg_text
-  creg_lacks k h n = ap refused n ∙ lacks _ _ h
-
-  pub creg_has : (t : List ℕ) (q : Reading Registration) → starts_with (bytes "+CREG: ") s ≡ true → t ≡ drop 7 s → q ≡ registration_fields (2 ∷ 5 ∷ 5 ∷ []) (fields 44 t) → q ≡ creg_text s
-  unfolding creg_text
-  creg_has t q h is e = has _ (λ u. registration_fields (2 ∷ 5 ∷ []) (fields 44 u)) t (drop 7 s) q h is (e ∙ fields_five (fields 44 t))
-
-  pub creg_lacks_alone : (k : Refusal) → starts_with (bytes "+CREG: ") s ≡ false → number_of k ≡ 3 → number_of k ≡ refusal_in (creg_text s)
-  creg_lacks_alone k h n = ap refusal_in (creg_lacks k h n)
-
-  pub creg_has_alone : (t : List ℕ) (n : ℕ) → starts_with (bytes "+CREG: ") s ≡ true → t ≡ drop 7 s → n ≡ refusal_in (registration_fields (2 ∷ 5 ∷ 5 ∷ []) (fields 44 t)) → n ≡ refusal_in (creg_text s)
-  creg_has_alone t n h is e = e ∙ ap refusal_in (creg_has t _ h is refl)
-
-  pub cgreg_lacks : (k : Refusal) → starts_with (bytes "+CGREG: ") s ≡ false → number_of k ≡ 3 → refused (number_of k) ≡ cgreg_text s
-  unfolding cgreg_text
-  cgreg_lacks k h n = ap refused n ∙ lacks _ _ h
-
-  pub cgreg_has : (t : List ℕ) (q : Reading Registration) → starts_with (bytes "+CGREG: ") s ≡ true → t ≡ drop 8 s → q ≡ registration_fields (2 ∷ 5 ∷ 8 ∷ []) (fields 44 t) → q ≡ cgreg_text s
-  unfolding cgreg_text
-  cgreg_has t q h is e = has _ (λ u. registration_fields (2 ∷ 5 ∷ 8 ∷ []) (fields 44 u)) t (drop 8 s) q h is e
-
-  pub cgreg_lacks_alone : (k : Refusal) → starts_with (bytes "+CGREG: ") s ≡ false → number_of k ≡ 3 → number_of k ≡ refusal_in (cgreg_text s)
-  cgreg_lacks_alone k h n = ap refusal_in (cgreg_lacks k h n)
-
-  pub cgreg_has_alone : (t : List ℕ) (n : ℕ) → starts_with (bytes "+CGREG: ") s ≡ true → t ≡ drop 8 s → n ≡ refusal_in (registration_fields (2 ∷ 5 ∷ 8 ∷ []) (fields 44 t)) → n ≡ refusal_in (cgreg_text s)
-  cgreg_has_alone t n h is e = e ∙ ap refusal_in (cgreg_has t _ h is refl)
-
-pub ruleset creg = (creg_lacks, creg_has, creg_lacks_alone, creg_has_alone)
-
-pub ruleset cgreg = (cgreg_lacks, cgreg_has, cgreg_lacks_alone, cgreg_has_alone)
 
 -- +CEREG: what the code has as o of the field that it chose, of k fields of which f is the first and g the second
 module _ (o : Option ℤ) (k : ℕ) (t : List ℕ) (count : k ≡ length (fields 44 t)) where

@@ -11,16 +11,13 @@ use lib.Ieee.{Float, binary32, of_bits, of_fields, fin}
 use lib.IntN.{pos}
 use lib.ListN.{length, get_or, drop}
 use borrow.Author.Tests.{eq-eqb, ne_eqb, eqb-true}
-use Rattle.text.specs.Bytes.{bytes, same}
 use Rattle.std.specs.Prelude as Std
-use Rattle.std.specs.Option.{is_some}
 use Rattle.text.specs.Field.{fields, nth}
-use Rattle.text.specs.Number.{unsigned}
-use Rattle.text.specs.says.Refusal.{option_said, option_mapped}
+use Rattle.text.specs.says.Refusal.{option_said}
 use Rattle.text.specs.Reader.{FieldStartsKeeps}
-use Rattle.text.specs.Reading.{Reading, read, refused, refusal_in, present, need, need_else}
+use Rattle.text.specs.Reading.{Reading, read, refusal_in, present, need, need_else}
 use Rattle.text.proofs.ReaderStarts.{starts_in, starts_past}
-use Rattle.text.proofs.Readings.{only_is, only_else, either_so, either_not, need_so, need_not, there, refusal_need}
+use Rattle.text.proofs.Readings.{there, refusal_need}
 use Rattle.text.proofs.Tests.{never, not_some}
 use Rattle.text.proofs.Yields.{Yields, yields_only, yields_either, yields_need}
 use Rattle.numeral.specs.Numeral.{float_of, is_numeral, numeral_text}
@@ -32,9 +29,6 @@ use Rattle.unsolicited.specs.Undated.{field_of, Undated}
 use Rattle.unsolicited.specs.Written.{Says}
 use Rattle.unsolicited.proofs.Written.{read_so}
 use Rattle.unsolicited.proofs.Written.{said as said-so}
-use Rattle.unsolicited.specs.says.Gnss.{date_says, date_option_says, fix_says, DateKeeps}
-use Rattle.unsolicited.specs.declared.ugnsinf.DateTime.{DateTime}
-use Rattle.unsolicited.specs.declared.ugnsinf.GnssFix.{GnssFix}
 
 -- what the numeral's answer says of a float field
 pub float_said : (t s : List ℕ) (r : Std.Option Float) → NumeralKeeps t r → t ≡ s → option_said r ≡ float_of s
