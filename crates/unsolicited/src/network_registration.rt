@@ -111,6 +111,7 @@ pub(crate) fn refusal(rest: &[u8], longest: usize) -> Result<(), Refusal>
 }
 
 impl NetworkRegistration {
+    #[tactic(auto, using(crate::proofs::Registrations::plain_creg, crate::proofs::Registrations::plain_cgreg), unfolding(text::specs::Reading::first_of, crate::specs::Registration::registration_text))]
     pub(crate) fn from_checked(line: &[u8]) -> Result<NetworkRegistration, Refusal>
         ensures { says result ≡ registration_text line.now }
     {
