@@ -1,65 +1,31 @@
 // Bytes spelled in hexadecimal, two digits each.
-use console::output;
-use text::{digit, part};
+ghost use Rattle.std.specs.Prelude.{◌<◌, IfSome};
 
-// How many bytes a text spells, or that it spells none: a digit is missing, or something else stands there, or there is no room.
-#[derive(Drop)]
-pub(crate) enum Spelled {
-    Is(usize),
-    Not,
-}
+use text::digit;
 
-// A digit's worth, letters in either case; 16 for any other byte.
-fn nibble(x: u8) -> u8 {
-    if digit::is_ascii_digit(x) {
-        return digit::value(x);
-    }
+// A digit's worth, letters in either case.
+fn nibble(x: u8) -> Option<u8>
+    ensures { IfSome result (λ n. n < 16) }
+{
     match x {
-        b'a'..=b'f' => x - 87,
-        b'A'..=b'F' => x - 55,
-        _ => 16,
+        b'a'..=b'f' => Some(x - b'a' + 10),
+        b'A'..=b'F' => Some(x - b'A' + 10),
+        _ if digit::is_ascii_digit(x) => Some(digit::value(x)),
+        _ => None,
     }
 }
 
-// Lays the bytes that a text spells at the front of out.
-pub(crate) fn decode(hex: &[u8], out: &mut [u8]) -> Spelled {
-    let mut n = 0;
-    let mut i = 0;
-    while i < hex.len() {
-        if hex.len() - i < 2 {
-            return Spelled::Not;
-        }
-        if out.len() <= n {
-            return Spelled::Not;
-        }
-        let high = nibble(hex[i]);
-        let low = nibble(hex[i + 1]);
-        if 15 < high {
-            return Spelled::Not;
-        }
-        if 15 < low {
-            return Spelled::Not;
-        }
-        out[n] = high * 16 + low;
-        i += 2;
-        n += 1;
+// The bytes that a text spells, at the front of out. None where a digit is missing, something else
+// stands there, or out has no room.
+pub(crate) fn decode<'a>(hex: &[u8], out: &'a mut [u8]) -> Option<&'a [u8]> {
+    let n = hex.len() / 2;
+    if hex.len() % 2 != 0 || out.len() < n {
+        return None;
     }
-    Spelled::Is(n)
-}
-
-fn put_digit(out: &mut [u8], at: usize, n: u8) -> usize {
-    let k = n as usize;
-    output::put(out, at, part::part(b"0123456789abcdef", k, k + 1))
-}
-
-pub(crate) fn put(out: &mut [u8], at: usize, bytes: &[u8]) -> usize {
-    let mut to = at;
-    let mut i = 0;
-    while i < bytes.len() {
-        let b = bytes[i];
-        let e = put_digit(out, to, b / 16);
-        to = put_digit(out, e, b % 16);
-        i += 1;
+    let out = &mut out[..n];
+    for (byte, pair) in out.iter_mut().zip(hex.chunks_exact(2)) {
+        let [high, low] = pair else { return None };
+        *byte = nibble(*high)? * 16 + nibble(*low)?;
     }
-    to
+    Some(out)
 }

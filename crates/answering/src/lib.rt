@@ -2,21 +2,29 @@
 // by the others with one. Lines are cut at LF, and a last line needs none.
 #![tactic(auto)]
 
-ghost use Rattle.std.specs.Prelude.{◌-◌, ◌≤◌, IfOk};
-ghost use Rattle.console.specs.Input.{KeepsSize};
-
-use console::input::{FIRST, Turn};
-use console::{input, output};
+use console::input;
+use console::output::Output;
 use std::io::{Input, Print, Read, Write};
-use text::part;
 
 mod captures;
 mod commands;
-mod handed;
 mod hex;
 mod lines;
+mod show;
 mod vectors;
 
+pub use captures::Captures;
+pub use commands::Commands;
+pub use lines::Lines;
+pub use vectors::Vectors;
+
+// A program that answers line by line.
+pub trait Answer {
+    // Writes the answer to a line, without the LF at its end.
+    fn answer<W: Write>(&self, line: &[u8], out: &mut W) -> std::io::Result<()>;
+}
+
+// One of the four, where which one is a value.
 #[derive(Clone, Copy)]
 pub enum Program {
     Lines,
@@ -25,67 +33,42 @@ pub enum Program {
     Vectors,
 }
 
-fn answer<W: Write>(
-    program: Program,
-    writer: &mut W,
-    out: &mut [u8],
-    at: usize,
-    line: &[u8],
-) -> std::io::Result<usize> {
-    match program {
-        Program::Lines => Ok(lines::answer(out, at, line)),
-        Program::Commands => Ok(commands::answer(out, at, line)),
-        Program::Captures => captures::answer(writer, out, at, line),
-        Program::Vectors => Ok(vectors::answer(out, at, line)),
+impl Answer for Program {
+    fn answer<W: Write>(&self, line: &[u8], out: &mut W) -> std::io::Result<()> {
+        match self {
+            Program::Lines => Lines.answer(line, out),
+            Program::Commands => Commands.answer(line, out),
+            Program::Captures => Captures.answer(line, out),
+            Program::Vectors => Vectors.answer(line, out),
+        }
     }
 }
 
-fn turn<R: Read, W: Write>(
-    program: Program,
-    reader: &mut R,
-    writer: &mut W,
-    buffer: &mut [u8],
-    out: &mut [u8],
-    before: Turn,
-) -> std::io::Result<Turn>
-    ensures left { IfOk result (λ after. after.left ≤ before.left - 1) }
-    ensures read { KeepsSize buffer.old buffer.new }
-    ensures laid { KeepsSize out.old out.new }
-{
-    let mut t = input::next_turn(reader, writer, buffer, out, before)?;
-    if t.left == 0 {
-        return Ok(t);
-    }
-    let line = t.line;
-    let e = answer(
-        program,
-        writer,
-        out,
-        t.at,
-        part::part(buffer, line.start, line.end),
-    )?;
-    t.at = output::end_line(writer, out, e)?;
-    Ok(t)
-}
-
-fn answer_all<R: Read, W: Write>(
-    program: Program,
-    reader: &mut R,
-    writer: &mut W,
-    buffer: &mut [u8],
-    out: &mut [u8],
+// Answers each line of a reader. Where a read fails, what is answered by then is written first.
+fn answer_all<R: Read + Drop, W: Write + Drop>(
+    program: &impl Answer,
+    reader: R,
+    writer: W,
 ) -> std::io::Result<()> {
-    let mut t = FIRST;
-    while 0 < t.left {
-        t = turn(program, reader, writer, buffer, out, t)?;
+    let mut lines = input::Lines::new(reader);
+    let mut out = Output::new(writer);
+    // no input has more lines
+    for _ in 0..u64::MAX {
+        match lines.next_line() {
+            Ok(Some(line)) => {
+                program.answer(line, &mut out)?;
+                writeln!(out)?;
+            }
+            Ok(None) => return out.flush(),
+            Err(error) => {
+                out.flush()?;
+                return Err(error);
+            }
+        }
     }
-    Ok(())
+    out.flush()
 }
 
-pub fn run(rt: &(impl Input + Print), program: Program) -> std::io::Result<()> {
-    let mut buffer = io::large_buffer();
-    let mut out = io::large_buffer();
-    let mut reader = rt.reader();
-    let mut writer = std::io::writer(rt);
-    answer_all(program, &mut reader, &mut writer, &mut buffer, &mut out)
+pub fn run(rt: &(impl Input + Print), program: impl Answer + Drop) -> std::io::Result<()> {
+    answer_all(&program, rt.reader(), std::io::writer(rt))
 }

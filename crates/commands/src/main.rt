@@ -1,8 +1,8 @@
 // Writes the command of each request of standard input.
 #![tactic(auto)]
 
-use answering::Program;
+use answering::Commands;
 
 fn main(rt: HostRuntime) -> std::io::Result<()> {
-    answering::run(&rt, Program::Commands)
+    answering::run(&rt, Commands)
 }

@@ -1,15 +1,53 @@
-// Lines of a lent reader, cut at LF in a lent buffer.
-ghost use Rattle.std.specs.Prelude.{◌+◌, ◌-◌, ◌≤◌, length, IfOk};
-ghost use Rattle.text.specs.Gives.{Gives};
-ghost use Rattle.console.specs.Input.{NextLineKeeps, NextTurnKeeps, KeepsSize};
+// Lines of a reader, cut at LF in a buffer of fixed size: no input makes it grow. A line of more
+// than half the buffer is handed out without some of its bytes, and is then still as long as half
+// the buffer. A last line needs no LF.
+ghost use Rattle.std.specs.Prelude.{◌≡◌, ◌-◌, ◌≤◌, length, IfOk, IfSome};
+ghost use Rattle.console.specs.Input.{NextLineKeeps, NextTurnKeeps, KeepsSize, HasRoomFor};
 
 use crate::output;
+use std::io;
 use std::io::{Read, Write};
 use text::part::Place;
-use text::{bytes, copy, part};
+use text::{bytes, part};
 
-// A turn of a program that answers line by line: the line's place in the buffer, that of what is read and not cut yet, where the answer goes in the
-// other buffer, and how many turns may follow. None may at the end of the input.
+// How many bytes are read ahead at most.
+const SIZE: usize = 65536;
+
+// The lines of a reader.
+#[derive(Drop)]
+pub struct Lines<R> {
+    reader: R,
+    buffer: [u8; SIZE],
+    // what is read and not cut yet
+    rest: Place,
+}
+
+impl<R: Read> Lines<R> {
+    pub fn new(reader: R) -> Lines<R>
+        ensures { result.reader ≡ reader }
+    {
+        Lines {
+            reader,
+            buffer: [0; SIZE],
+            rest: NOWHERE,
+        }
+    }
+
+    // The next line, and none at the end of the input.
+    pub fn next_line(&mut self) -> io::Result<Option<&[u8]>>
+        ensures { IfOk result (λ next. IfSome next (λ line. HasRoomFor line.now)) }
+    {
+        let Some(next) = next_line(&mut self.reader, &mut self.buffer, self.rest)? else {
+            return Ok(None);
+        };
+        self.rest = next.rest;
+        Ok(Some(part::part(&self.buffer, next.line.start, next.line.end)))
+    }
+}
+
+// A turn of a program that answers line by line out of buffers that it lends: the line's place, that
+// of what is read and not cut yet, where the answer goes in the other buffer, and how many turns
+// may follow. None may at the end of the input.
 #[derive(Clone, Copy)]
 pub struct Turn {
     pub line: Place,
@@ -28,84 +66,60 @@ pub const FIRST: Turn = Turn {
     left: u64::MAX,
 };
 
-// The places of the line and of the rest, and whether there is a line.
+// A line, and what is read behind it.
 #[derive(Clone, Copy)]
 struct Next {
     line: Place,
     rest: Place,
-    there: bool,
 }
 
-// Moves the bytes from start up to end to the front, half a buffer at most, and says how many.
-fn keep(buffer: &mut [u8], start: usize, end: usize) -> usize
+// Moves the bytes at a place to the front, half a buffer at most, and says how many.
+fn keep(buffer: &mut [u8], place: Place) -> usize
     ensures { result ≤ length buffer.new }
 {
-    let n = copy::least(part::part(buffer, start, end).len(), buffer.len() / 2);
-    let mut i = 0;
-    while i < n {
-        buffer[i] = buffer[start + i];
-        i += 1;
+    let kept = part::part(buffer, place.start, place.end).len();
+    let n = kept.min(buffer.len() / 2);
+    if 0 < n {
+        buffer.copy_within(place.start..place.start + n, 0);
     }
     n
 }
 
-// Reads behind the first n bytes, and says how many there are then.
-fn fill<R: Read>(reader: &mut R, buffer: &mut [u8], n: usize) -> std::io::Result<usize>
-    requires { n ≤ length buffer.old }
-    ensures end { IfOk result (λ end. (n ≤ end) × (end ≤ length buffer.new)) }
+// The next line, and none at the end of the input.
+fn next_line<R: Read>(reader: &mut R, buffer: &mut [u8], read: Place) -> io::Result<Option<Next>>
+    ensures line { IfOk result (λ found. IfSome found (λ next. NextLineKeeps next buffer.new)) }
     ensures size { KeepsSize buffer.old buffer.new }
 {
-    let got = reader.read(&mut buffer[n..])?;
-    Ok(n + got)
-}
-
-// The next line, with what is read behind it in `rest`. A last line needs no LF. A line of more than half the buffer is handed out without some of its
-// bytes, and is then still as long as half the buffer.
-fn next_line<R: Read>(reader: &mut R, buffer: &mut [u8], rest: Place) -> std::io::Result<Next>
-    ensures line { IfOk result (λ next. NextLineKeeps next buffer.new) }
-    ensures size { KeepsSize buffer.old buffer.new }
-{
-    let mut start = rest.start;
-    let mut end = rest.end;
-    let mut from = start;
+    let mut rest = read;
+    let mut from = rest.start;
     // no input has more turns: each reads a byte
-    let mut turns = u64::MAX;
-    while 0 < turns {
-        let read = part::part(buffer, 0, end);
-        let e = bytes::find(read, from, b'\n');
-        if e < read.len() {
-            return Ok(Next {
-                line: Place { start, end: e },
-                rest: Place { start: e + 1, end },
-                there: true,
-            });
+    for _ in 0..u64::MAX {
+        let read = part::part(buffer, 0, rest.end);
+        let end = bytes::find(read, from, b'\n');
+        if end < read.len() {
+            let line = Place {
+                start: rest.start,
+                end,
+            };
+            let rest = Place {
+                start: end + 1,
+                end: rest.end,
+            };
+            return Ok(Some(Next { line, rest }));
         }
-        from = keep(buffer, start, end);
-        end = fill(reader, buffer, from)?;
+        from = keep(buffer, rest);
+        let end = from + reader.read(&mut buffer[from..])?;
+        rest = Place { start: 0, end };
+        if end == 0 {
+            return Ok(None);
+        }
         if end == from {
-            return Ok(Next {
-                line: Place { start: 0, end },
-                rest: Place { start: end, end },
-                there: 0 < end,
-            });
+            let line = rest;
+            let rest = Place { start: end, end };
+            return Ok(Some(Next { line, rest }));
         }
-        start = 0;
-        turns -= 1;
     }
-    Ok(Next {
-        line: NOWHERE,
-        rest: NOWHERE,
-        there: false,
-    })
-}
-
-fn one_less(n: u64) -> u64
-    ensures { Gives (n - 1) result }
-{
-    if n == 0 {
-        return 0;
-    }
-    n - 1
+    Ok(None)
 }
 
 // The turn of the next line. At the end of the input all that stands in out is written, and so it is
@@ -120,27 +134,16 @@ pub fn next_turn<R: Read, W: Write>(
     ensures turn { IfOk result (λ next. NextTurnKeeps turn next buffer.new) }
     ensures size { KeepsSize buffer.old buffer.new }
 {
-    let read = turn.rest;
-    let cut = next_line(reader, buffer, read);
-    if cut.is_err() {
-        output::flush(writer, out, turn.at)?;
-    }
-    let next = cut?;
-    let line = next.line;
-    let rest = next.rest;
-    if next.there {
+    let found = next_line(reader, buffer, turn.rest);
+    if let Ok(Some(Next { line, rest })) = found {
         return Ok(Turn {
             line,
             rest,
             at: turn.at,
-            left: one_less(turn.left),
+            left: turn.left.saturating_sub(1),
         });
     }
     output::flush(writer, out, turn.at)?;
-    Ok(Turn {
-        line,
-        rest,
-        at: 0,
-        left: 0,
-    })
+    found?;
+    Ok(Turn { left: 0, ..FIRST })
 }

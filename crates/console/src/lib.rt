@@ -1,6 +1,7 @@
-// What the programs share: lines cut from a lent reader, and lines laid into a buffer that is
-// written when it is nearly full.
+// What the programs share: lines cut from a reader, what is written in a buffer before it goes out,
+// and the words of events.
 #![tactic(auto)]
 
 pub mod input;
 pub mod output;
+pub mod said;

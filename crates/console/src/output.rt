@@ -1,12 +1,58 @@
-// Texts and numbers laid into a lent buffer, one behind the other. Each call says where the next one goes; what has no room is left out.
-ghost use Rattle.std.specs.Prelude.{◌-◌, IfOk, OnOk};
+// Output: a writer with a buffer, for the programs, and texts and numbers laid into a buffer that a
+// caller lends, one behind the other.
+ghost use Rattle.std.specs.Prelude.{◌≡◌, IfOk, OnOk};
 ghost use Rattle.std.specs.Io.KnownBytes.{Appends};
-ghost use Rattle.text.specs.Gives.{Gives};
 ghost use Rattle.text.specs.Part.{part_of};
 ghost use Rattle.console.specs.Output.{Puts, PutsDecimal, PutsHex, EndsLine, LaysLineEnd};
 
 use std::io::Write;
 use text::{copy, part};
+
+// How many bytes wait at most before they are written.
+const SIZE: usize = 65536;
+
+// What is written waits in a buffer of fixed size, until that is full or `flush` is called: std's
+// BufWriter without a heap. Nothing is written when it is dropped.
+#[derive(Drop)]
+pub struct Output<W> {
+    writer: W,
+    buffer: [u8; SIZE],
+    waiting: usize,
+}
+
+impl<W: Write> Output<W> {
+    pub fn new(writer: W) -> Output<W>
+        ensures { result.writer ≡ writer }
+    {
+        Output {
+            writer,
+            buffer: [0; SIZE],
+            waiting: 0,
+        }
+    }
+}
+
+impl<W: Write> Write for Output<W> {
+    fn write(&mut self, bytes: &[u8]) -> std::io::Result<usize> {
+        if SIZE.saturating_sub(self.waiting) < bytes.len() {
+            self.flush()?;
+        }
+        let room = SIZE.saturating_sub(self.waiting);
+        let n = bytes.len().min(room);
+        self.waiting = put(&mut self.buffer, self.waiting, &bytes[..n]);
+        Ok(n)
+    }
+
+    // After an error it is not known how much was written, and all of it still waits.
+    fn flush(&mut self) -> std::io::Result<()> {
+        flush(&mut self.writer, &self.buffer, self.waiting)?;
+        self.waiting = 0;
+        Ok(())
+    }
+}
+
+// The functions below are for a buffer that the caller lends: each says where the next one goes, and
+// what has no room is left out. Their parameters stay as they are, since each is a public call.
 
 // A line has this much room at least when it begins.
 const ROOM: usize = 1024;
@@ -14,10 +60,7 @@ const ROOM: usize = 1024;
 pub fn put(out: &mut [u8], at: usize, s: &[u8]) -> usize
     ensures { Puts s.now at out.old result out.new }
 {
-    if out.len() < at {
-        return at;
-    }
-    if out.len() - at < s.len() {
+    if out.len() < at || out.len() - at < s.len() {
         return at;
     }
     copy::lay(s, at, out)
@@ -49,23 +92,13 @@ pub fn flush<W: Write>(writer: &mut W, out: &[u8], n: usize) -> std::io::Result<
     writer.write_all(part::part(out, 0, n))
 }
 
-// Past this index a buffer of n bytes is nearly full.
-fn nearly_full(n: usize) -> usize
-    ensures { Gives (n - 1024) result }
-{
-    if n < ROOM {
-        return 0;
-    }
-    n - ROOM
-}
-
 // Ends the line at `at`, writes all where out is nearly full, and says where the next line begins.
 pub fn end_line<W: Write>(writer: &mut W, out: &mut [u8], at: usize) -> std::io::Result<usize>
     ensures line { IfOk result (λ next. EndsLine at out.old next out.new) }
     ensures laid { LaysLineEnd at out.old out.new }
 {
     let e = put(out, at, b"\n");
-    if nearly_full(out.len()) < e {
+    if out.len().saturating_sub(ROOM) < e {
         flush(writer, out, e)?;
         return Ok(0);
     }

@@ -1,10 +1,9 @@
--- A turn of the loop, at the byte `at` of the chunk: a feed takes some of what is left, none is passed over, and what is left then brings the desk to where the whole chunk brings it.
-use Prim.Native.Nat.{ℕ, ◌+◌, ◌≤◌, ◌<◌}
+-- A turn of the loop: a feed takes some of what is left, none is passed over, and what is left then brings the desk to where the whole chunk brings it.
+use Prim.Native.Nat.{ℕ, ◌≤◌, ◌<◌}
 use mathlib.Core.Path.{◌≡◌, sym, ap, ◌∙◌}
 use mathlib.Core.List.{List, [], ◌∷◌}
 use native.Mathlib.Omega.{arith}
-use lib.ListN.{length, drop, length-drop, drop_of_length-le}
-use lib.Seq.{drop-drop}
+use lib.ListN.{length, drop}
 use Rattle.desk.specs.Machine.{Stop, after, feed}
 use Rattle.desk.specs.Ordinal.{Numbered}
 use Rattle.desk.specs.Judge.{Seen}
@@ -13,56 +12,47 @@ use Rattle.desk.specs.Says.{answer_says, state_of, fed_lent_says}
 use Rattle.desk.specs.Keeps.{FeedLentKeeps}
 use Rattle.desk.specs.Demand.{accepts, taken_by}
 use Rattle.desk.specs.declared.Desk.{Desk}
-use Rattle.desk.specs.declared.feed.FedAnswer.{FedAnswer}
+use Rattle.core.specs.declared.result.Result.{Result}
+use Rattle.text.specs.declared.refusal.Refusal.{Refusal}
+use Rattle.desk.specs.declared.feed.Feed.{Feed}
 use Rattle.desk.proofs.Machine.{feed_most, feed_some, feed_rest}
 use Rattle.desk.proofs.Demand.{IsFeed, kept_feed}
 use Rattle.desk.proofs.Lives.{fed_accepts}
 
-some_taken : (s : State) (chunk : List ℕ) → 0 < length chunk → 0 < (feed desk s chunk).taken
+some_taken : (s : State) (rest : List ℕ) → 0 < length rest → 0 < (feed desk s rest).taken
 some_taken s [] h = absurd (omega arith)
 some_taken s (b ∷ bs) h = feed_some desk s b bs
 
 -- a turn that takes n bytes: some, none past the end, and what is left then brings the desk to `all`
-pub record Turn (chunk : List ℕ) (at : ℕ) (all : State) (d : Desk) (n : ℕ) : Type 0 where
-  pub most : at + n ≤ length chunk
+pub record Turn (rest : List ℕ) (all : State) (d : Desk) (n : ℕ) : Type 0 where
+  pub most : n ≤ length rest
   pub some : 0 < n
-  pub on : after_bytes (state_of d) (drop (at + n) chunk) ≡ all
+  pub on : after_bytes (state_of d) (drop n rest) ≡ all
 
-module _ (chunk : List ℕ) (at : ℕ) (all : State) where
-  pub turn_end : (d : Desk) → length chunk ≤ at → after_bytes (state_of d) (drop at chunk) ≡ all → state_of d ≡ all
+module _ (all : State) where
+  pub turn_end : (d : Desk) (rest : List ℕ) → length rest ≡ 0 → after_bytes (state_of d) rest ≡ all → state_of d ≡ all
   unfolding after
-  turn_end d h inv = sym (ap (after_bytes (state_of d)) (drop_of_length-le chunk h)) ∙ inv
+  turn_end d [] h inv = inv
+  turn_end d (b ∷ bs) h inv = absurd (omega arith)
 
-  module _ (d : Desk) (rest text : List ℕ) (d' : Desk) (r : FedAnswer) (text' : List ℕ) (is : rest ≡ drop at chunk) (kept : FeedLentKeeps d rest text d' r text') (room : length text ≡ 256) where
+  module _ (d : Desk) (rest text : List ℕ) (d' : Desk) (r : Result Feed Refusal) (text' : List ℕ) (kept : FeedLentKeeps d rest text d' r text') (room : length text ≡ 256) where
     is_feed : IsFeed (state_of d) rest (fed_lent_says d' r text')
     is_feed = kept_feed (state_of d) rest text (fed_lent_says d' r text') kept (ap (λ (f : Fed). accepts f.answer) kept ∙ fed_accepts (state_of d) rest text (omega arith))
 
     taken_is : (feed desk (state_of d) rest).taken ≡ taken_by (answer_says r)
     taken_is = ap (λ (f : Stop State (Numbered Seen)). f.taken) is_feed
 
-    left_is : length rest ≡ length (drop at chunk)
-    left_is = ap length is
-
-    turn_most : at ≤ length chunk → at + taken_by (answer_says r) ≤ length chunk
-    turn_most h = omega (arith, taken_is, feed_most desk (state_of d) rest, left_is, length-drop at chunk)
-
-    turn_some : at < length chunk → 0 < taken_by (answer_says r)
-    turn_some h = omega (arith, taken_is, some_taken (state_of d) rest (omega (arith, left_is, length-drop at chunk)))
-
-    turn_on : after_bytes (state_of d) (drop at chunk) ≡ all → after_bytes (state_of d') (drop (at + taken_by (answer_says r)) chunk) ≡ all
+    turn_on : after_bytes (state_of d) rest ≡ all → after_bytes (state_of d') (drop (taken_by (answer_says r)) rest) ≡ all
     turn_on inv =
-        ap (after_bytes (state_of d')) (sym (drop-drop (taken_by (answer_says r)) at chunk))
-        ∙ ap (λ (l : List ℕ). after_bytes (state_of d') (drop (taken_by (answer_says r)) l)) (sym is)
-        ∙ ap (λ (s : State). after_bytes s (drop (taken_by (answer_says r)) rest)) (ap (λ (f : Stop State (Numbered Seen)). f.state) (sym is_feed))
+        ap (λ (s : State). after_bytes s (drop (taken_by (answer_says r)) rest)) (ap (λ (f : Stop State (Numbered Seen)). f.state) (sym is_feed))
         ∙ ap (λ (k : ℕ). after_bytes (feed desk (state_of d) rest).state (drop k rest)) (sym taken_is)
         ∙ feed_rest desk (state_of d) rest
-        ∙ ap (after_bytes (state_of d)) is
         ∙ inv
 
     -- all that a turn does, where it takes n bytes
-    pub turned : (n : ℕ) → n ≡ taken_by (answer_says r) → at < length chunk → after_bytes (state_of d) (drop at chunk) ≡ all → Turn chunk at all d' n
+    pub turned : (n : ℕ) → n ≡ taken_by (answer_says r) → 0 < length rest → after_bytes (state_of d) rest ≡ all → Turn rest all d' n
     turned n took h inv = record {
-      most = omega (arith, turn_most (omega arith));
-      some = omega (arith, turn_some h);
+      most = omega (arith, taken_is, feed_most desk (state_of d) rest);
+      some = omega (arith, taken_is, some_taken (state_of d) rest h);
       on = rw took (turn_on inv);
     }

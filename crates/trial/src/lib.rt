@@ -1,5 +1,6 @@
-// Reads a line, whichever reader takes it. Here the readers are tried in their order, both trials in turn behind one check of the line's length and of its UTF-8; `straight` asks
-// the one that could take the line.
+// Reads a line, whichever reader takes it. Here the readers are tried in their order, both trials in
+// turn behind one check of the line's length and of its UTF-8; `straight` asks the one that could
+// take the line.
 #![tactic(auto)]
 
 mod row;
@@ -19,7 +20,7 @@ pub enum Line {
     Unsolicited(Urc),
 }
 
-// What a line is to a desk.
+// What a line is to a desk. Its names say more than an `Option<ResponseKind>` would.
 #[derive(Clone, Copy)]
 pub enum Sort {
     Response(ResponseKind),

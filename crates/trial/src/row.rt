@@ -1,5 +1,6 @@
-// The row by which a line goes, in the table of what each reader asks of a line's front and end (specs/Conditions.antt), counted from 0: no other reader could take the line.
-// It looks at no more than the first five bytes, the classes of the first and the last, and where the line ends.
+// The row by which a line goes, in the table of what each reader asks of a line's front and end
+// (specs/Conditions.antt), counted from 0: no other reader could take the line. It looks at no more
+// than the first five bytes, the classes of the first and the last, and where the line ends.
 ghost use Rattle.std.specs.Prelude.{◌≡◌, true, List, [], ◌∷◌, ℕ};
 ghost use Rattle.text.specs.Class.{class_of, class_number};
 ghost use Rattle.text.specs.Condition.{is_digit_class, first_byte, last_byte, Points};
@@ -8,7 +9,8 @@ ghost use Rattle.trial.specs.Row.{no_row, Front, ByLetters};
 
 use text::{bytes, class};
 
-// No reader's row.
+// No reader's row. A row past the table's needs no case of its own: no line meets its condition, and
+// a reader past the last refuses every line with 3. So rows are numbers, and there is no `Option`.
 pub(crate) const NONE: usize = 255;
 
 // The first byte, a plus before it left out, and the last one; 0 where there is none.
@@ -32,7 +34,8 @@ fn last_byte(line: &[u8]) -> u8
     bytes::byte_at(line, n - 1)
 }
 
-// A number in front: the end tells CLOSE OK from an ICCID, which may end in letters, and where it ends an ICCID from an IMEI.
+// A number in front: the end tells CLOSE OK from an ICCID, which may end in letters, and where it
+// ends an ICCID from an IMEI.
 fn number_row(last: u8, line: &[u8]) -> usize
     requires { (is_digit_class (class_of (first_byte line.now)) ≡ true) × (last ≡ class_number (last_byte line.now)) }
     ensures { Points all_conditions line.now result }
@@ -91,7 +94,8 @@ fn plus_row(b: u8, c: u8, d: u8, e: u8) -> usize
     }
 }
 
-// The first five bytes, each handed over by itself: a line would be handed over through memory.
+// The first five bytes, each handed over by itself, here and above: a line, or a struct of them,
+// would be handed over through memory.
 fn letter_row(a: u8, b: u8, c: u8, d: u8, e: u8) -> usize
     ensures { (l : List ℕ) → Front (a ∷ b ∷ c ∷ d ∷ e ∷ []) l → ByLetters l result }
 {

@@ -1,5 +1,6 @@
-// The second engine (document 02, CR 6): it asks the one reader that could take the line, whose check of the line's length and UTF-8 is the only one on its path. What it
-// answers is what the trials in their order answer, refusals included: the contracts are theirs.
+// The second engine (document 02, CR 6): it asks the one reader that could take the line, whose check
+// of the line's length and UTF-8 is the only one on its path. What it answers is what the trials in
+// their order answer, refusals included: the contracts are theirs.
 ghost use Rattle.std.specs.Prelude.{◌≡◌};
 ghost use Rattle.text.specs.Condition.{Points};
 ghost use Rattle.text.specs.Line.{refusal_by};
@@ -74,8 +75,8 @@ fn taker_at(row: usize) -> Taker
     Taker::NetworkRegistration
 }
 
-// For sorting alone: which reader takes the line. skip(line, 0) has the compiler pass its place and its length one by one: loaded as one piece they would wait for the two
-// stores of a caller in C.
+// For sorting alone: which reader takes the line. skip(line, 0) has the compiler pass its place and
+// its length one by one: loaded as one piece they would wait for the two stores of a caller in C.
 pub fn taker(line: &[u8]) -> Result<Taker, Refusal>
     ensures { TakerKeeps line.now result }
 {

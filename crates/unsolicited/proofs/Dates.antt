@@ -1,20 +1,19 @@
 -- The date as the code reads it: its form, its numbers two digits at a time, and whether it exists. Assumes nothing.
-use mathlib.Core.Path.{◌≡◌, refl, ap, sym, ◌∙◌}
+use mathlib.Core.Path.{◌≡◌, refl, ap, ◌∙◌}
 use mathlib.Core.Bool.{Bool, true, false, not, ◌&&◌, and_assoc}
 use mathlib.Core.List.{List, [], ◌∷◌}
 use mathlib.Core.Option.{Option, none, some}
 use Prim.Native.Nat.{ℕ, ◌+◌, ◌-◌, ◌*◌, ◌≤◌, ◌<◌}
 use native.Mathlib.Omega.{arith}
 use lib.Dec.{eqb, leb}
-use lib.ListN.{length, get_or, take, drop, length-take}
-use borrow.Author.Tests.{eq-eqb, ne_eqb, le-leb, lt-leb, not-true, not-false}
+use lib.ListN.{length, get_or, take, drop}
+use borrow.Author.Tests.{eq-eqb, ne_eqb, le-leb, lt-leb, not-true}
 use Rattle.text.specs.Bytes.{within, all_digits}
 use Rattle.text.specs.Digit.{above_zero}
 use Rattle.text.specs.Number.{value_of}
 use Rattle.text.specs.Part.{part_of}
 use Rattle.text.proofs.AtIndex.{at_next}
 use Rattle.text.proofs.Ascii.{digit_at}
-use Rattle.text.proofs.Parts.{from_start}
 use Rattle.text.proofs.Told.{difference, to_nine}
 use Rattle.unsolicited.specs.Calendar.{days_in}
 use Rattle.unsolicited.specs.Date.{Date, is_fraction, figures, date_in, is_date, existing, date_of}

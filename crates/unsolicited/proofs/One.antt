@@ -2,7 +2,7 @@
 use mathlib.Core.Path.{◌≡◌, refl, ap}
 use mathlib.Core.List.{List, [], ◌∷◌}
 use Prim.Native.Nat.{ℕ}
-use Rattle.std.proofs.Common.{Option, Some, None, Result}
+use Rattle.std.proofs.Common.{Option, Some, None, Result, ℤ}
 use Rattle.text.specs.declared.refusal.Refusal.{Refusal}
 use lib.ListN.{get_or}
 use Rattle.text.specs.Reading.{Reading}
@@ -10,10 +10,10 @@ use Rattle.text.specs.Line.{checked}
 use Rattle.text.proofs.One.{one_answer, option, back_option, one_reading}
 use Rattle.unsolicited.specs.Date.{Date, date_of}
 use Rattle.unsolicited.specs.Gnss as G
-use Rattle.unsolicited.specs.Registration.{Registration}
+use Rattle.unsolicited.specs.Registration.{Registration, status_of}
 use Rattle.unsolicited.specs.Urc as U
 use Rattle.unsolicited.specs.says.Gnss.{date_option_says, report_says, DateKeeps, GnssReportKeeps}
-use Rattle.unsolicited.specs.says.Registration.{status_number, registration_says, RegistrationKeeps}
+use Rattle.unsolicited.specs.says.Registration.{status_number, registration_says, RegistrationKeeps, StatusKeeps}
 use Rattle.unsolicited.specs.says.Urc.{urc_says, UrcKeeps, UrcAtKeeps}
 use Rattle.unsolicited.specs.declared.network_registration.RegistrationStatus.{RegistrationStatus}
 use Rattle.unsolicited.specs.declared.network_registration.RegistrationStatus.TheVariants.{NotRegistered, RegisteredHome, Searching, RegistrationDenied, Unknown, RegisteredRoaming}
@@ -36,6 +36,10 @@ back_status Searching = refl
 back_status RegistrationDenied = refl
 back_status Unknown = refl
 back_status RegisteredRoaming = refl
+
+-- one answer: network_registration::<RegistrationStatus as From<i32>>::from
+pub one_status : (n : ℤ) (a b : RegistrationStatus) → StatusKeeps n a → StatusKeeps n b → a ≡ b
+one_status n a b = one_answer status_number status back_status a b (status_of n)
 
 abbrev network : Registration → NetworkRegistration
 network r = record { status = status r.status; lac = option Some None (λ n. n) r.lac; ci = option Some None (λ n. n) r.ci }

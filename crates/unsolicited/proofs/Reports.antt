@@ -2,16 +2,15 @@
 -- report or of its refusal alone; and the date that a report has, or for want of which it is refused.
 -- Assumes nothing.
 use mathlib.Core.Path.{◌≡◌, refl, ap, sym, subst, ◌∙◌}
-use mathlib.Core.Bool.{Bool, true, false, cond, not, ◌&&◌}
+use mathlib.Core.Bool.{Bool, true, false, cond, ◌&&◌}
 use mathlib.Core.List.{List}
 use mathlib.Core.Option.{Option, none, some}
 use Prim.Native.Nat.{ℕ, ◌≤◌, ◌<◌}
 use native.Mathlib.Omega.{arith}
-use lib.Dec.{eqb}
 use lib.Ieee.{Float, binary32, of_bits, of_fields, fin}
 use lib.IntN.{pos}
 use lib.ListN.{length, get_or, drop}
-use borrow.Author.Tests.{eq-eqb, ne_eqb, eqb-true, not-true, not-false}
+use borrow.Author.Tests.{eq-eqb, ne_eqb, eqb-true}
 use Rattle.text.specs.Bytes.{bytes, same}
 use Rattle.std.specs.Prelude as Std
 use Rattle.std.specs.Option.{is_some}
@@ -19,9 +18,9 @@ use Rattle.text.specs.Field.{fields, nth}
 use Rattle.text.specs.Number.{unsigned}
 use Rattle.text.specs.says.Refusal.{option_said, option_mapped}
 use Rattle.text.specs.Reader.{FieldStartsKeeps}
-use Rattle.text.specs.Reading.{Reading, read, refused, refusal_in, present, only, need, need_else}
+use Rattle.text.specs.Reading.{Reading, read, refused, refusal_in, present, need, need_else}
 use Rattle.text.proofs.ReaderStarts.{starts_in, starts_past}
-use Rattle.text.proofs.Readings.{only_is, only_else, either_so, either_not, need_so, need_not, refuses, accepts, sorts, there, missing, not_there, refusal_need}
+use Rattle.text.proofs.Readings.{only_is, only_else, either_so, either_not, need_so, need_not, there, refusal_need}
 use Rattle.text.proofs.Tests.{never, not_some}
 use Rattle.text.proofs.Yields.{Yields, yields_only, yields_either, yields_need}
 use Rattle.numeral.specs.Numeral.{float_of, is_numeral, numeral_text}

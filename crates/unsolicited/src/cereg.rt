@@ -8,8 +8,8 @@ ghost use Rattle.text.specs.says.Refusal.{option_said, refusal_said};
 ghost use Rattle.unsolicited.specs.Registration.{cereg_status, cereg_fields, cereg_text};
 ghost use Rattle.unsolicited.specs.says.Registration.{says, RegistrationKeeps};
 
-use crate::network_registration::NetworkRegistration;
-use crate::{network_registration, prefix};
+use crate::network_registration::{NetworkRegistration, RegistrationStatus};
+use crate::prefix;
 use text::refusal::Refusal;
 use text::{bytes, field, line, number, reader};
 
@@ -33,13 +33,14 @@ fn status_in(rest: &[u8]) -> Option<i32>
 }
 
 impl CEReg {
+    #[tactic(auto, unfolding(text::specs::Reading::only, text::specs::Reading::need_else, crate::specs::Registration::cereg_text, crate::specs::Registration::cereg_fields))]
     pub(crate) fn from_checked(line: &[u8]) -> Result<NetworkRegistration, Refusal>
         ensures { says result ≡ cereg_text line.now }
     {
         let rest = prefix::behind(line, b"+CEREG: ")?;
         let status = status_in(rest).ok_or(Refusal::NotThisLine)?;
         Ok(NetworkRegistration {
-            status: network_registration::status_of(status),
+            status: RegistrationStatus::from(status),
             lac: None,
             ci: None,
         })
@@ -54,6 +55,7 @@ impl CEReg {
     }
 
     // The answer of `from_checked` with its value forgotten.
+    #[tactic(auto, unfolding(text::specs::Reading::only, text::specs::Reading::need_else, crate::specs::Registration::cereg_text, crate::specs::Registration::cereg_fields))]
     pub(crate) fn refusal_checked(line: &[u8]) -> Result<(), Refusal>
         ensures { refusal_said result ≡ refusal_in (cereg_text line.now) }
     {

@@ -104,17 +104,14 @@ impl DateTime {
         ensures { DateKeeps time_string.now result }
     {
         let (text, fraction) = time_string.split_first_chunk::<14>()?;
-        if !bytes::all_digits(text) {
-            return None;
-        }
-        if !is_fraction(fraction) {
+        if !bytes::all_digits(text) || !is_fraction(fraction) {
             return None;
         }
         Digits { text }.date().existing_date()
     }
 }
 
-#[derive(Clone, Copy)]
+#[derive(Clone, Copy, Debug, PartialEq)]
 pub struct GnssFix {
     pub date_time: DateTime,
     pub latitude: f32,
@@ -131,7 +128,7 @@ pub struct GnssFix {
     pub signal_noise_ratio: u32,
 }
 
-#[derive(Clone, Copy)]
+#[derive(Clone, Copy, Debug, PartialEq)]
 pub enum GnssReport {
     NotEnabled,
     NoFix { sat_gps_view: Option<u32> },
@@ -241,6 +238,7 @@ impl<'a> Fields<'a> {
     }
 
     // The fix, if all its values are readable.
+    #[tactic(auto, unfolding(text::specs::Reading::need_else, crate::specs::Gnss::fix_on))]
     fn fix_on(&self, date_time: DateTime) -> Option<GnssFix>
         ensures { need (option_mapped fix_says result) (λ found. read (fix found))
             ≡ fix_on (date_says date_time) (fields 44 self.now.rest.now) }
@@ -275,6 +273,7 @@ impl<'a> Fields<'a> {
     }
 
     // The date first: 13 where there is none, whatever the other fields are.
+    #[tactic(auto, unfolding(text::specs::Reading::need_else, crate::specs::Gnss::fix_of))]
     fn gnss_fix(&self) -> Result<GnssReport, Refusal>
         ensures { says result ≡ fix_of (fields 44 self.now.rest.now) }
     {
@@ -305,6 +304,7 @@ impl GnssReport {
     ghost use Rattle.unsolicited.specs.says.Gnss.{says, GnssReportKeeps};
 
     // Reads what follows the prefix.
+    #[tactic(auto, unfolding(text::specs::Reading::only, text::specs::Reading::either, crate::specs::Gnss::ugnsinf_fields))]
     fn gnss_report(rest: &[u8]) -> Result<GnssReport, Refusal>
         ensures { says result ≡ ugnsinf_fields (fields 44 rest.now) }
     {
@@ -321,6 +321,7 @@ impl GnssReport {
     }
 
     // As `gnss_report`, with every value forgotten.
+    #[tactic(auto, unfolding(text::specs::Reading::only, text::specs::Reading::either, text::specs::Reading::need_else, crate::specs::Gnss::ugnsinf_fields, crate::specs::Gnss::fix_of))]
     fn report_refusal(rest: &[u8]) -> Result<(), Refusal>
         ensures { refusal_said result ≡ refusal_in (ugnsinf_fields (fields 44 rest.now)) }
     {
@@ -340,6 +341,7 @@ impl GnssReport {
         Ok(())
     }
 
+    #[tactic(auto, unfolding(text::specs::Reading::only, crate::specs::Gnss::ugnsinf_text))]
     pub(crate) fn from_checked(line: &[u8]) -> Result<GnssReport, Refusal>
         ensures { says result ≡ ugnsinf_text line.now }
     {
@@ -356,6 +358,7 @@ impl GnssReport {
     }
 
     // The answer of `from_checked` with its value forgotten.
+    #[tactic(auto, unfolding(text::specs::Reading::only, crate::specs::Gnss::ugnsinf_text))]
     pub(crate) fn refusal_checked(line: &[u8]) -> Result<(), Refusal>
         ensures { refusal_said result ≡ refusal_in (ugnsinf_text line.now) }
     {

@@ -1,21 +1,18 @@
-use Rattle.std.proofs.Common.{arith}
+use Rattle.std.proofs.Common.{◌<◌, length, length-drop, arith, rules}
 use Rattle.showing.proofs.Draining.{turn_end, turned}
 use Rattle.showing.proofs.drain.Goals as goal
 
-pub overflow_add-at : goal.overflow_add-at
-overflow_add-at g c =
-    let t = turned _ _ _ _ _ _ _ _ _ c.skip.ensures.bytes c.feed_lent-answer.ensures c.loop-at.invariant.room _ c.in_ok-at.ensures c.loop-at-test.true c.loop-at.invariant.left in
-    omega (arith, t.most)
+pub loop-rest-smaller : goal.loop-rest-smaller
+loop-rest-smaller g c =
+    let h : 0 < length c.loop-rest.rest.now = search rules in
+    let t = turned _ _ _ _ _ _ _ c.feed_lent-answer.ensures c.loop-rest.invariant.room _ c.in_ok-taken.ensures h c.loop-rest.invariant.left in
+    rw (c.skip-rest.ensures.bytes, length-drop) (omega (arith, t.some, h))
 
-pub loop-at-smaller : goal.loop-at-smaller
-loop-at-smaller g c =
-    let t = turned _ _ _ _ _ _ _ _ _ c.skip.ensures.bytes c.feed_lent-answer.ensures c.loop-at.invariant.room _ c.in_ok-at.ensures c.loop-at-test.true c.loop-at.invariant.left in
-    omega (arith, t.some)
-
-pub loop-at-preserved : goal.loop-at-preserved
-loop-at-preserved g c =
-    let t = turned _ _ _ _ _ _ _ _ _ c.skip.ensures.bytes c.feed_lent-answer.ensures c.loop-at.invariant.room _ c.in_ok-at.ensures c.loop-at-test.true c.loop-at.invariant.left in
-    record { within = t.most; room = omega arith; left = t.on }
+pub loop-rest-preserved : goal.loop-rest-preserved
+loop-rest-preserved g c =
+    let h : 0 < length c.loop-rest.rest.now = search rules in
+    let t = turned _ _ _ _ _ _ _ c.feed_lent-answer.ensures c.loop-rest.invariant.room _ c.in_ok-taken.ensures h c.loop-rest.invariant.left in
+    record { room = omega arith; left = rw c.skip-rest.ensures.bytes t.on }
 
 pub returns : goal.returns
-returns g c = turn_end c.args.chunk.now c.loop-at.at _ c.loop-at.d (omega arith) c.loop-at.invariant.left
+returns g c = turn_end _ _ _ (search rules) c.loop-rest.invariant.left

@@ -1,10 +1,10 @@
 -- What the answers on the registration in the network say on paper, and the contract of their four readers.
-use Rattle.std.specs.Prelude.{◌≡◌, List, ℕ, Result}
+use Rattle.std.specs.Prelude.{◌≡◌, List, ℕ, ℤ, Result}
 use Rattle.text.specs.Line.{checked}
 use Rattle.text.specs.Reading.{Reading}
 use Rattle.text.specs.declared.refusal.Refusal.{Refusal}
 use Rattle.text.specs.says.Refusal.{option_said, reading_said}
-use Rattle.unsolicited.specs.Registration.{Registration}
+use Rattle.unsolicited.specs.Registration.{Registration, status_of}
 use Rattle.unsolicited.specs.declared.network_registration.RegistrationStatus.{RegistrationStatus}
 use Rattle.unsolicited.specs.declared.network_registration.RegistrationStatus.TheVariants.{NotRegistered, RegisteredHome, Searching, RegistrationDenied, Unknown, RegisteredRoaming}
 use Rattle.unsolicited.specs.declared.network_registration.NetworkRegistration.{NetworkRegistration}
@@ -16,6 +16,10 @@ status_number Searching = 2
 status_number RegistrationDenied = 3
 status_number Unknown = 4
 status_number RegisteredRoaming = 5
+
+-- a status made of its number
+abbrev pub StatusKeeps : ℤ → RegistrationStatus → Type 0
+StatusKeeps n s = status_number s ≡ status_of n
 
 abbrev pub registration_says : NetworkRegistration → Registration
 registration_says r = record { status = status_number r.status; lac = option_said r.lac; ci = option_said r.ci }

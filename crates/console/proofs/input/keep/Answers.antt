@@ -1,10 +1,9 @@
-use Rattle.std.proofs.Common.{refl, arith, length-set, rules}
-use Rattle.text.proofs.Copying.{least_le}
+use Rattle.std.proofs.Common.{arith}
 use Rattle.console.proofs.Laws.{behind}
 use Rattle.console.proofs.input.keep.Goals as goal
 
-pub loop-i-init : goal.loop-i-init
-loop-i-init c = let h = least_le _ _ _ c.least-n.ensures in (omega arith, omega arith, omega (arith, behind _ _ _ _ c.part.ensures), refl)
+pub overflow_add-place : goal.overflow_add-place
+overflow_add-place c = omega (arith, behind _ _ _ _ c.part-kept.ensures)
 
-pub loop-i-preserved : goal.loop-i-preserved
-loop-i-preserved c = simp length-set (search rules)
+pub copy_within-requires-clause-in_bounds : goal.copy_within-requires-clause-in_bounds
+copy_within-requires-clause-in_bounds c = omega (arith, behind _ _ _ _ c.part-kept.ensures)

@@ -5,8 +5,5 @@ use Rattle.console.proofs.output.put.Goals as goal
 pub returns-then-out-at : goal.returns-then-out-at
 returns-then-out-at c = left_out _ _ _ (omega arith)
 
-pub returns-then-out-at-2 : goal.returns-then-out-at-2
-returns-then-out-at-2 c = left_out _ _ _ (omega arith)
-
 pub returns : goal.returns
 returns c = laid _ _ _ _ _ (omega arith) c.lay.ensures

@@ -1,9 +1,0 @@
--- Each turn lays one byte.
-use Rattle.std.proofs.Common.{◌≡◌, ◌-◌, length}
-use Rattle.answering.proofs.hex.put.Given as goal
-
-abbrev pub invariant-loop-i : goal.invariant-loop-i
-invariant-loop-i l = length l.out ≡ length l.initial.out
-
-abbrev pub decreases-loop-i : goal.decreases-loop-i
-decreases-loop-i l = length l.bytes - l.i

@@ -1,9 +1,0 @@
--- Each turn takes one of the values.
-use Rattle.std.proofs.Common.{◌≡◌, ◌-◌, length}
-use Rattle.answering.proofs.lines.fill.Given as goal
-
-abbrev pub invariant-loop-k : goal.invariant-loop-k
-invariant-loop-k l = length l.out ≡ length l.initial.out
-
-abbrev pub decreases-loop-k : goal.decreases-loop-k
-decreases-loop-k l = length l.values - l.k
