@@ -3,8 +3,8 @@ ghost use Rattle.desk.specs.Keeps.{ResetKeeps, FeedLentKeeps, OpenLentKeeps};
 ghost use Rattle.desk.specs.Rules.{plain_mode, echo_mode};
 ghost use Rattle.desk.specs.Says.{mode_says};
 
-use crate::{Desk, Mode};
 use crate::feed::Feed;
+use crate::{Desk, Mode};
 use at_command::request::Request;
 use text::refusal::Refusal;
 

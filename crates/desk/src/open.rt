@@ -105,14 +105,7 @@ impl Desk {
     {
         let OpenedParts { state, answer } = match mode {
             Mode::Plain => open_on(self.state, request, first, second, out),
-            Mode::Echo => open_echo_on(
-                self.state,
-                &mut self.sent,
-                request,
-                first,
-                second,
-                out,
-            ),
+            Mode::Echo => open_echo_on(self.state, &mut self.sent, request, first, second, out),
         };
         Opened {
             desk: Desk { state, ..self },
