@@ -1,3 +1,2 @@
 pub mod Feeding
 pub mod One
-pub mod Sorting

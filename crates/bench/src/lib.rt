@@ -28,7 +28,7 @@ pub extern "C" fn bench_feed(
     };
     let fed = desk.feed(chunk, text);
     let feed = match fed.answer {
-        Err(k) => return k,
+        Err(refusal) => return refusal.number(),
         Ok(feed) => feed,
     };
     // The borrow checker takes an array from a variable alone.
@@ -52,10 +52,9 @@ pub extern "C" fn bench_feed(
 pub extern "C" fn bench_sort_in_order(line: &[u8]) -> u8
     ensures { SortInOrderKeeps line.now result }
 {
-    let sort = trial::sort_of(line);
-    match sort {
-        Sort::Refused(k) => 128 + k,
-        Sort::Response(kind) => kind.place() + 1,
-        Sort::Unsolicited => 14,
+    match trial::sort_of(line) {
+        Err(refusal) => 128 + refusal.number(),
+        Ok(Sort::Response(kind)) => kind.place() + 1,
+        Ok(Sort::Unsolicited) => 14,
     }
 }

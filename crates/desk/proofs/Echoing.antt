@@ -4,29 +4,27 @@ use mathlib.Core.Path.{◌≡◌, sym, ap, ◌∙◌}
 use mathlib.Core.Bool.{Bool, true, false}
 use mathlib.Core.List.{List, [], ◌∷◌}
 use native.Mathlib.Omega.{arith}
-use lib.ListN.{length, take}
+use lib.ListN.{length, take, drop}
+use lib.Dec.{eqb}
+use Rattle.std.specs.Cmp.Lexicographic.{pointwise}
+use Rattle.text.proofs.Finding.{same_is}
 use Rattle.text.specs.Bytes.{bytes, same, ends_with}
 use Rattle.text.proofs.Tests.{never}
 use Rattle.desk.specs.Cut.{bare}
 use Rattle.desk.specs.Judge.{is_echo}
 
-module _ (s : List ℕ) {t : Bool} (is : t ≡ ends_with (bytes "\r") s) where
-  -- what ends with a CR has a byte
-  pub cr_some : t ≡ true → 0 < length s
-  unfolding same ends_with
-  cr_some e = by s (sym is ∙ e)
-    where
-      by : (l : List ℕ) → ends_with (bytes "\r") l ≡ true → 0 < length l
-      by [] f = never (cc)
-      by (x ∷ l) f = omega arith
+-- the last byte is a CR, and is taken off, or it is none
+ends_cr : (s : List ℕ) → ends_with (bytes "\r") s ≡ pointwise eqb (drop (length s - 1) s) (13 ∷ [])
+unfolding ends_with
+ends_cr s = same_is (drop (length s - 1) s) (13 ∷ [])
 
-  pub bare_cut : t ≡ true → take (length s - 1) s ≡ bare s
-  unfolding bare
-  bare_cut e = rw (sym is ∙ e)
+pub bare_cut : (s : List ℕ) → pointwise eqb (drop (length s - 1) s) (13 ∷ []) ≡ true → take (length s - 1) s ≡ bare s
+unfolding bare
+bare_cut s e = rw (ends_cr s ∙ e)
 
-  pub bare_whole : t ≡ false → s ≡ bare s
-  unfolding bare
-  bare_whole e = rw (sym is ∙ e)
+pub bare_whole : (s : List ℕ) → pointwise eqb (drop (length s - 1) s) (13 ∷ []) ≡ false → s ≡ bare s
+unfolding bare
+bare_whole s e = rw (ends_cr s ∙ e)
 
 module _ (sent l : List ℕ) {t : Bool} (is : t ≡ same l sent) where
   pub echo_whole : t ≡ true → true ≡ is_echo sent l
@@ -39,6 +37,6 @@ module _ (sent l : List ℕ) {t : Bool} (is : t ≡ same l sent) where
 
 -- ---- what the proofs of the code list
 
-pub ruleset bares = (cr_some, bare_cut, bare_whole)
+pub ruleset bares = (bare_cut, bare_whole)
 
 pub ruleset echoes = (echo_whole, echo_bare)

@@ -128,7 +128,7 @@ pub one_reset : (d r q : Desk) → ResetKeeps d r → ResetKeeps d q → r ≡ q
 one_reset d r q e f = same_desk r q (e ∙ sym f)
 
 -- with the output buffer
--- one answer: Desk::open, Desk::open_echo
+-- one answer: Desk::open_in, Desk::open, Desk::open_echo
 pub one_open : (mode : Mode) (d : Desk) (request : Request) (first second out : List ℕ) (r q : Opened) (out' out'' : List ℕ) → OpenKeeps mode d request first second out r out'
     → OpenKeeps mode d request first second out q out'' → (r ≡ q) × (out' ≡ out'')
 one_open mode d request first second out r q out' out'' e f =
@@ -138,7 +138,7 @@ one_open mode d request first second out r q out' out'' e f =
     (rw (desk, answer), ap (λ (y : D.Opened). y.out) g)
 
 -- with the desk behind the reference and the output buffer
--- one answer: Desk::open_lent, Desk::open_echo_lent
+-- one answer: Desk::open_in_lent, Desk::open_lent, Desk::open_echo_lent
 pub one_open_lent : (mode : Mode) (d : Desk) (request : Request) (first second out : List ℕ) (d' d'' : Desk) (r q : Result ℕ Refusal) (out' out'' : List ℕ)
     → OpenLentKeeps mode d request first second out d' r out' → OpenLentKeeps mode d request first second out d'' q out'' → (d' ≡ d'') × (r ≡ q) × (out' ≡ out'')
 one_open_lent mode d request first second out d' d'' r q out' out'' e f =

@@ -12,6 +12,8 @@ use Rattle.desk.specs.Lines as L
 use Rattle.desk.specs.Lines.{Line}
 use Rattle.desk.specs.Judge as J
 use Rattle.desk.specs.Judge.{idle, awaiting, Ruling}
+use Rattle.desk.specs.Rules as R
+use Rattle.desk.specs.Rules.{plain_mode, echo_mode}
 use Rattle.desk.specs.Desk as D
 use Rattle.desk.specs.Desk.{Tray, Kept, quiet, event}
 use Rattle.desk.specs.Search.{tray_of}
@@ -28,6 +30,8 @@ use Rattle.desk.specs.declared.feed.Heard.{Heard}
 use Rattle.desk.specs.declared.feed.Feed.{Feed}
 use Rattle.desk.specs.declared.feed.Fed.{Fed}
 use Rattle.desk.specs.declared.feed.FedParts.{FedParts}
+use Rattle.desk.specs.declared.open.Mode.{Mode}
+use Rattle.desk.specs.declared.open.Mode.TheVariants as O
 use Rattle.desk.specs.declared.open.Opened.{Opened}
 use Rattle.desk.specs.declared.open.OpenedParts.{OpenedParts}
 
@@ -35,6 +39,10 @@ use Rattle.desk.specs.declared.open.OpenedParts.{OpenedParts}
 abbrev pub command_says : Option Awaits → J.Command
 command_says None = idle
 command_says (Some a) = awaiting (awaits_says a)
+
+abbrev pub mode_says : Mode → R.Mode
+mode_says O.Plain = plain_mode
+mode_says O.Echo = echo_mode
 
 -- the number of a stray, 0 where nothing was refused
 abbrev pub stray_says : Option Refusal → ℕ

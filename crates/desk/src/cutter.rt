@@ -6,7 +6,7 @@ ghost use Rattle.desk.specs.Desk.{view_of, buffered};
 ghost use Rattle.desk.specs.Search.{tray_of, found_after, Filled, Plain, Past};
 ghost use Rattle.desk.specs.Says.{found_line, pushed_says, found_says};
 
-use text::{bytes, copy};
+use text::copy;
 
 // What ends a feed: a line past its length, or the first bytes of the buffer, so many.
 #[derive(Clone, Copy)]
@@ -35,11 +35,7 @@ pub struct Found {
 pub(crate) fn without_cr(line: &[u8]) -> &[u8]
     ensures { result.now ≡ bare line.now }
 {
-    if bytes::ends_with(line, b"\r") {
-        &line[..line.len() - 1]
-    } else {
-        line
-    }
+    line.strip_suffix(b"\r").unwrap_or(line)
 }
 
 // What an LF makes of the len bytes before it.

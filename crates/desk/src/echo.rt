@@ -4,7 +4,6 @@ ghost use Rattle.desk.specs.Judge.{is_echo};
 ghost use Rattle.desk.specs.Desk.{echo_in, size_in};
 
 use crate::cutter;
-use text::bytes;
 
 // The size of the echo that is awaited, 0 where none is: a size above the bytes that are kept awaits none.
 pub(crate) fn size_of(sent: &[u8], echo: usize) -> usize
@@ -14,9 +13,9 @@ pub(crate) fn size_of(sent: &[u8], echo: usize) -> usize
 }
 
 // Whether the line equals the command, with or without its final CR.
-#[tactic(auto, using(crate::proofs::Echoing::echoes))]
+#[tactic(auto, using(crate::proofs::Echoing::echoes, text::proofs::Finding::same_is))]
 pub(crate) fn is_echo(line: &[u8], sent: &[u8]) -> bool
     ensures { result ≡ is_echo sent.now line.now }
 {
-    bytes::is_text(line, sent) || bytes::is_text(line, cutter::without_cr(sent))
+    line == sent || line == cutter::without_cr(sent)
 }

@@ -1,9 +1,10 @@
 // A desk that is lent: it is handed to the by-value call, and what comes back is stored in its place.
 ghost use Rattle.desk.specs.Keeps.{ResetKeeps, FeedLentKeeps, OpenLentKeeps};
 ghost use Rattle.desk.specs.Rules.{plain_mode, echo_mode};
+ghost use Rattle.desk.specs.Says.{mode_says};
 
-use crate::Desk;
 use crate::feed::Feed;
+use crate::{Desk, Mode};
 use at_command::request::Request;
 use text::refusal::Refusal;
 
@@ -16,6 +17,21 @@ impl Desk {
         fed.answer
     }
 
+    pub fn open_in_lent(
+        &mut self,
+        mode: Mode,
+        request: Request,
+        first: &[u8],
+        second: &[u8],
+        out: &mut [u8],
+    ) -> Result<usize, Refusal>
+        ensures { OpenLentKeeps (mode_says mode) self.old request first.now second.now out.old self.new result out.new }
+    {
+        let opened = (*self).open_in(mode, request, first, second, out);
+        *self = opened.desk;
+        opened.answer
+    }
+
     pub fn open_lent(
         &mut self,
         request: Request,
@@ -25,9 +41,7 @@ impl Desk {
     ) -> Result<usize, Refusal>
         ensures { OpenLentKeeps plain_mode self.old request first.now second.now out.old self.new result out.new }
     {
-        let opened = (*self).open(request, first, second, out);
-        *self = opened.desk;
-        opened.answer
+        self.open_in_lent(Mode::Plain, request, first, second, out)
     }
 
     pub fn open_echo_lent(
@@ -39,9 +53,7 @@ impl Desk {
     ) -> Result<usize, Refusal>
         ensures { OpenLentKeeps echo_mode self.old request first.now second.now out.old self.new result out.new }
     {
-        let opened = (*self).open_echo(request, first, second, out);
-        *self = opened.desk;
-        opened.answer
+        self.open_in_lent(Mode::Echo, request, first, second, out)
     }
 
     pub fn reset_lent(&mut self)

@@ -16,9 +16,9 @@ mod ordinal;
 mod reset;
 
 use at_command::request::Awaits;
-use text::refusal::Refusal;
 pub use feed::{Fed, FedParts, Feed, Heard, feed_on};
-pub use open::{Opened, OpenedParts, open_echo_on, open_on};
+pub use open::{Mode, Opened, OpenedParts, open_echo_on, open_on};
+use text::refusal::Refusal;
 
 // What a desk keeps beside its two buffers, in numbers but for the command. Every value of every
 // field has a meaning, so no state is ill-formed. By default it is that of a new desk: zeros, and

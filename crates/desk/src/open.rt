@@ -1,11 +1,20 @@
 // A command is opened: its bytes are written, and its answers awaited.
 ghost use Rattle.desk.specs.Keeps.{OpenKeeps, OpenOnKeeps, OpenEchoOnKeeps};
 ghost use Rattle.desk.specs.Rules.{plain_mode, echo_mode};
+ghost use Rattle.desk.specs.Says.{mode_says};
 
 use crate::{Desk, State};
 use at_command::request::Request;
 use text::refusal::Refusal;
 use text::{copy, part};
+
+// A command is opened in plain mode, or in echo mode, for a modem with echo on: until the command
+// comes back as a line, no answer is taken for it.
+#[derive(Clone, Copy, Debug, PartialEq, Eq)]
+pub enum Mode {
+    Plain,
+    Echo,
+}
 
 // The size of the command that was written. Refused while a command is open or a line is held, and as the writer refuses.
 #[derive(Clone, Copy)]
@@ -84,37 +93,35 @@ pub fn open_echo_on(
 }
 
 impl Desk {
-    pub fn open(self, request: Request, first: &[u8], second: &[u8], out: &mut [u8]) -> Opened
-        ensures { OpenKeeps plain_mode self request first.now second.now out.old result out.new }
+    pub fn open_in(
+        mut self,
+        mode: Mode,
+        request: Request,
+        first: &[u8],
+        second: &[u8],
+        out: &mut [u8],
+    ) -> Opened
+        ensures { OpenKeeps (mode_says mode) self request first.now second.now out.old result out.new }
     {
-        let OpenedParts { state, answer } = open_on(self.state, request, first, second, out);
+        let OpenedParts { state, answer } = match mode {
+            Mode::Plain => open_on(self.state, request, first, second, out),
+            Mode::Echo => open_echo_on(self.state, &mut self.sent, request, first, second, out),
+        };
         Opened {
             desk: Desk { state, ..self },
             answer,
         }
     }
 
-    // For a modem with echo on: until the command comes back as a line, no answer is taken for it.
-    pub fn open_echo(
-        mut self,
-        request: Request,
-        first: &[u8],
-        second: &[u8],
-        out: &mut [u8],
-    ) -> Opened
+    pub fn open(self, request: Request, first: &[u8], second: &[u8], out: &mut [u8]) -> Opened
+        ensures { OpenKeeps plain_mode self request first.now second.now out.old result out.new }
+    {
+        self.open_in(Mode::Plain, request, first, second, out)
+    }
+
+    pub fn open_echo(self, request: Request, first: &[u8], second: &[u8], out: &mut [u8]) -> Opened
         ensures { OpenKeeps echo_mode self request first.now second.now out.old result out.new }
     {
-        let OpenedParts { state, answer } = open_echo_on(
-            self.state,
-            &mut self.sent,
-            request,
-            first,
-            second,
-            out,
-        );
-        Opened {
-            desk: Desk { state, ..self },
-            answer,
-        }
+        self.open_in(Mode::Echo, request, first, second, out)
     }
 }

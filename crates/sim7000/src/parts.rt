@@ -7,7 +7,6 @@ ghost use Rattle.sim7000.specs.says.Left.{LeaveKeeps};
 
 use crate::request::Wanted;
 use crate::{numbers, request};
-use at_command::request::Encoded;
 use desk::{Feed, OpenedParts};
 
 // Zeros are the state after it: idle, no echo awaited, nothing held, and no line counted.
@@ -31,10 +30,10 @@ fn leave(opened: OpenedParts, state: &mut [u64; 4], size: &mut u64) -> u8
     ensures { LeaveKeeps opened state.old size.old result state.new size.new }
 {
     match opened.answer {
-        Encoded::Refused(k) => k,
-        Encoded::Size(n) => {
+        Err(refusal) => refusal.number(),
+        Ok(written) => {
             *state = numbers::numbers_of(opened.state);
-            *size = n as u64;
+            *size = written as u64;
             0
         }
     }
@@ -121,7 +120,7 @@ pub extern "C" fn sim7000_feed(
 {
     let fed = desk::feed_on(line, numbers::state_in(state), sent, chunk, text);
     match fed.answer {
-        Err(k) => k,
+        Err(refusal) => refusal.number(),
         Ok(feed) => {
             *state = numbers::numbers_of(fed.state);
             *told = told_of(feed);

@@ -10,7 +10,7 @@ use Rattle.bench.proofs.bench_feed.Goals as goal
 pub returns-in-Err : goal.returns-in-Err
 returns-in-Err c = let new = c.default.ensures in
     let made = rw (new.1.0, new.1.1.0, new.1.1.1) at c.feed-fed.ensures in
-    fed_refused _ _ _ _ _ _ made (ap answer_says c.in-Err.is)
+    rw c.number.ensures (fed_refused _ _ _ _ _ _ made (ap answer_says c.in-Err.is))
 
 pub returns-in-None : goal.returns-in-None
 returns-in-None c = let new = c.default.ensures in

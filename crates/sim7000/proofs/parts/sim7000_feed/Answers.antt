@@ -7,7 +7,7 @@ use Rattle.sim7000.proofs.parts.sim7000_feed.Goals as goal
 pub returns-in-Err : goal.returns-in-Err
 returns-in-Err c = let a = c.args in
     let made = rw (c.state_in.ensures a.line.now a.sent.now) at c.feed_on-fed.ensures in
-    feed_refused _ _ _ _ _ _ _ made (ap answer_says c.in-Err.is)
+    rw c.number.ensures (feed_refused _ _ _ _ _ _ _ made (ap answer_says c.in-Err.is))
 
 pub returns-in-Ok : goal.returns-in-Ok
 returns-in-Ok c = let a = c.args in
