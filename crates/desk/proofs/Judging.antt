@@ -8,10 +8,11 @@ use native.Mathlib.Omega.{arith}
 use lib.ListN.{length, drop}
 use Rattle.text.specs.Reading.{Reading, read}
 use Rattle.at_command.specs.Kind.{Kind, generic_ok, sim_error}
-use Rattle.trial.specs.Sort.{Sort, unsolicited, line_sort}
+use Rattle.trial.specs.Sort.{Sort, response, unsolicited, line_sort}
 use Rattle.desk.specs.Lines.{Line, overlong, line}
 use Rattle.desk.specs.Judge as J
-use Rattle.desk.specs.Judge.{Command, awaiting, echoing, idle, is_open, any_awaited, is_refused, is_response, is_next, is_unsolicited, Ruling, stays, closes, takes_next, table, is_echo, ruling, judge}
+use Rattle.desk.specs.Search.{Next}
+use Rattle.desk.specs.Judge.{same_kind, Command, awaiting, echoing, idle, is_open, any_awaited, is_refused, is_response, is_next, is_unsolicited, Ruling, stays, closes, takes_next, table, is_echo, ruling, judge}
 use Rattle.text.proofs.Tests.{never}
 
 -- an unsolicited line is the command's in no case
@@ -22,6 +23,14 @@ table_unsolicited c = by c.awaited
     by : (ks : List Kind) → table (record { echo = c.echo; awaited = ks }) (read unsolicited) ≡ stays (record { echo = c.echo; awaited = ks }) J.Unsolicited
     by [] = refl
     by (k ∷ ks) = refl
+
+-- a response, where this answer is awaited next
+pub table_response : {ks : List Kind} {next : Kind} {taken : Ruling} (k : Kind) → Next ks next taken
+    → table (awaiting ks) (read (response k))
+    ≡ cond (same_kind k sim_error) (closes J.Failed) (cond (same_kind k next) taken (cond (same_kind k generic_ok) (closes J.Short) (stays (awaiting ks) (J.Stray 0))))
+unfolding table
+table_response {ks = []} k is = let e = is.first in never (cc)
+table_response {ks = n ∷ ks} {next} k is = let e : n ≡ next = (let f = is.first in cc) in rw (is.takes, e)
 
 -- what holds of each row's ruling holds of the table's
 table_cases : (P : Ruling → Type 0) (c : Command) (s : Reading Sort) → P (stays c (J.Stray (J.number_of s))) → P (closes J.Failed) → P (takes_next c.awaited) → P (closes J.Short)

@@ -3,6 +3,7 @@ use Prim.Native.Nat.{ℕ, zero, suc, ◌≤◌}
 use mathlib.Core.Path.{◌≡◌, refl, sym, ap, subst, ◌∙◌}
 use mathlib.Core.Bool.{true, false}
 use mathlib.Core.List.{List, [], ◌∷◌, ◌++◌}
+use Rattle.std.specs.Prelude.{Option, Some, None}
 use native.Mathlib.Omega.{arith}
 use lib.ListN.{length, take, drop, replicate, length-drop, take-append-drop}
 use borrow.Author.Tests.{le-ltb, leb-true}
@@ -10,6 +11,8 @@ use Rattle.text.specs.Reading.{Reading, read, refused}
 use Rattle.at_command.specs.Kind.{Kind, generic_ok, sim_error, write_prompt, close_ok, iccid, signal_quality, system_info, operator_info, network_time, download_info, imei, sms_message_format, sms_message}
 use Rattle.at_command.specs.Request.{get_signal_quality, command_of, encode_reading}
 use Rattle.at_command.specs.says.Request.{asked, kind_says, encoded_says}
+use Rattle.at_command.specs.declared.request.Awaits.{Awaits}
+use Rattle.at_command.specs.declared.request.Awaits.TheVariants.{One, Two}
 use Rattle.at_command.specs.declared.request.Request.{Request}
 use Rattle.at_command.specs.declared.request.Request.TheVariants.{GetSignalQuality}
 use Rattle.at_command.proofs.OneRequest.{encoded, kind}
@@ -17,22 +20,21 @@ use Rattle.desk.specs.Machine.{Stop, feed}
 use Rattle.desk.specs.Ordinal.{Numbered}
 use Rattle.desk.specs.Judge as J
 use Rattle.desk.specs.Judge.{Seen, Command, is_open}
-use Rattle.desk.specs.Desk.{State, view_of, command_kept, keep, judge_kept, desk, Heard, quiet, event, fed, is_clear, opened}
-use Rattle.desk.specs.Says.{command_says, event_says, answer_says, state_of}
+use Rattle.desk.specs.Desk as D
+use Rattle.desk.specs.Desk.{State, view_of, command_kept, keep, judge_kept, desk, quiet, event, fed, is_clear, opened}
+use Rattle.desk.specs.Says.{command_says, event_says, heard_says, answer_says, state_of}
 use Rattle.desk.specs.Keeps.{command_by, opened_by}
 use Rattle.desk.specs.Rules.{Mode}
 use Rattle.desk.specs.Demand.{Turn, Openings, Feeds, accepts, turn_of, bytes_of, Run, ends, feeds, Lives}
 use Rattle.desk.specs.Calls as By
 use Rattle.desk.specs.Calls.{DeskOpens, DeskFeeds}
 use Rattle.desk.specs.declared.Desk.{Desk}
-use Rattle.desk.specs.declared.command.Command.{Command as CommandCode}
-use Rattle.desk.specs.declared.command.Command.TheVariants.{Idle, One, Two}
 use Rattle.desk.proofs.Machine.{feed_some}
 use Rattle.desk.proofs.Judging.{Few, judge_few}
 use Rattle.desk.proofs.Feeding.{fed_command}
 use Rattle.desk.proofs.Commands.{command_few}
 use Rattle.desk.proofs.Demand.{Sound, desk_sound}
-use Rattle.desk.proofs.One.{command_in, event_in, answer_in, desk_in}
+use Rattle.desk.proofs.One.{command_in, event_in, heard_in, answer_in, desk_in}
 
 -- ---- feeds that can go on from every good desk take any bytes
 
@@ -121,20 +123,24 @@ event_says_lem J.Short = refl
 event_says_lem J.Unsolicited = refl
 event_says_lem J.Echo = refl
 
-answer_says_lem : (a : Reading Heard) → answer_says (answer_in a) ≡ a
+heard_says_lem : (h : D.Heard) → heard_says (heard_in h).taken (heard_in h).heard ≡ h
+unfolding heard_in
+heard_says_lem (quiet n) = refl
+heard_says_lem (event e ordinal n size) = ap (λ (x : J.Event). event x ordinal n size) (event_says_lem e)
+
+answer_says_lem : (a : Reading D.Heard) → answer_says (answer_in a) ≡ a
 unfolding answer_in
 answer_says_lem (refused k) = refl
-answer_says_lem (read (quiet n)) = refl
-answer_says_lem (read (event e ordinal n size)) = ap (λ (x : J.Event). read (event x ordinal n size)) (event_says_lem e)
+answer_says_lem (read h) = ap read (heard_says_lem h)
 
 encoded_says_lem : (a : Reading ℕ) → encoded_says (encoded a) ≡ a
 encoded_says_lem (read n) = refl
 encoded_says_lem (refused k) = refl
 
-two_at_most : (c : CommandCode) → length (command_says c).awaited ≤ 2
-two_at_most Idle = omega arith
-two_at_most (One a) = omega arith
-two_at_most (Two a b) = omega arith
+two_at_most : (c : Option Awaits) → length (command_says c).awaited ≤ 2
+two_at_most None = omega arith
+two_at_most (Some (One a)) = omega arith
+two_at_most (Some (Two a b)) = omega arith
 
 -- the state of some desk
 record Desks (s : State) : Type 0 where
@@ -144,7 +150,7 @@ record Desks (s : State) : Type 0 where
 serve : (text : List ℕ) → 256 ≤ length text → (d : Desk) (chunk : List ℕ) → Served DeskFeeds Desks (state_of d) chunk
 serve text room d chunk =
     let f = fed (state_of d) chunk text in
-    let few : length f.state.command.awaited ≤ 2 = omega (arith, fed_few (state_of d) chunk text, two_at_most d.command) in
+    let few : length f.state.command.awaited ≤ 2 = omega (arith, fed_few (state_of d) chunk text, two_at_most d.state.command) in
     record {
       turn = turn_of chunk (answer_says (answer_in f.answer)) f.text;
       next = state_of (desk_in f.state);

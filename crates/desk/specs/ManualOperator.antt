@@ -6,8 +6,8 @@ use Rattle.at_command.specs.declared.request.Encoded.{Encoded}
 use Rattle.at_command.specs.declared.request.Request.TheVariants.{SetManualOperator}
 use Rattle.desk.specs.Keeps.{OpenKeeps, OpenLentKeeps, OpenOnKeeps, OpenEchoOnKeeps}
 use Rattle.desk.specs.Rules.{Mode}
+use Rattle.desk.specs.declared.State.{State}
 use Rattle.desk.specs.declared.Desk.{Desk}
-use Rattle.desk.specs.declared.command.Command.{Command}
 use Rattle.desk.specs.declared.open.Opened.{Opened}
 use Rattle.desk.specs.declared.open.OpenedParts.{OpenedParts}
 
@@ -15,6 +15,6 @@ use Rattle.desk.specs.declared.open.OpenedParts.{OpenedParts}
 pub record OperatorsOpened (plmn second out out' : List ℕ) : Type 0 where
   pub value : (mode : Mode) (d : Desk) (r : Opened) → OpenKeeps mode d SetManualOperator plmn second out r out' → OperatorAnswer plmn (encoded_says r.answer) out'
   pub lent : (mode : Mode) (d d' : Desk) (r : Encoded) → OpenLentKeeps mode d SetManualOperator plmn second out d' r out' → OperatorAnswer plmn (encoded_says r) out'
-  pub parts : (len : ℕ) (command : Command) (echo counted : ℕ) (r : OpenedParts) → OpenOnKeeps len command echo counted SetManualOperator plmn second out r out' → OperatorAnswer plmn (encoded_says r.answer) out'
-  pub echo_parts : (len : ℕ) (command : Command) (sent : List ℕ) (echo counted : ℕ) (r : OpenedParts) (sent' : List ℕ)
-      → OpenEchoOnKeeps len command sent echo counted SetManualOperator plmn second out r sent' out' → OperatorAnswer plmn (encoded_says r.answer) out'
+  pub parts : (state : State) (r : OpenedParts) → OpenOnKeeps state SetManualOperator plmn second out r out' → OperatorAnswer plmn (encoded_says r.answer) out'
+  pub echo_parts : (state : State) (sent : List ℕ) (r : OpenedParts) (sent' : List ℕ)
+      → OpenEchoOnKeeps state sent SetManualOperator plmn second out r sent' out' → OperatorAnswer plmn (encoded_says r.answer) out'

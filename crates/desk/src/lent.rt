@@ -3,11 +3,11 @@ ghost use Rattle.desk.specs.Keeps.{ResetKeeps, FeedLentKeeps, OpenLentKeeps};
 ghost use Rattle.desk.specs.Rules.{plain_mode, echo_mode};
 
 use crate::Desk;
-use crate::feed::FedAnswer;
+use crate::feed::Feed;
 use at_command::request::{Encoded, Request};
 
 impl Desk {
-    pub fn feed_lent(&mut self, chunk: &[u8], text: &mut [u8]) -> FedAnswer
+    pub fn feed_lent(&mut self, chunk: &[u8], text: &mut [u8]) -> Result<Feed, u8>
         ensures { FeedLentKeeps self.old chunk.now text.old self.new result text.new }
     {
         let fed = (*self).feed(chunk, text);

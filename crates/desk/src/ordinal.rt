@@ -6,8 +6,5 @@ ghost use Rattle.desk.specs.Ordinal.{capped};
 pub(crate) fn next(counted: u32) -> u32
     ensures { result ≡ capped (suc counted) }
 {
-    if counted < 4294967295 {
-        return counted + 1;
-    }
-    4294967295
+    counted.saturating_add(1)
 }

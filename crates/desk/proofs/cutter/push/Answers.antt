@@ -13,7 +13,7 @@ pub returns-then-is_past : goal.returns-then-is_past
 returns-then-is_past c = search pushes
 
 pub is_prompt-prompt-requires : goal.is_prompt-prompt-requires
-is_prompt-prompt-requires c = (omega (arith, c.is_past.ensures.few c.if-is_past.false), search rules)
+is_prompt-prompt-requires c = omega (arith, c.is_past.ensures.few c.if-is_past.false)
 
 pub bounds-line-len : goal.bounds-line-len
 bounds-line-len c = omega (arith, c.is_past.ensures.few c.if-is_past.false)

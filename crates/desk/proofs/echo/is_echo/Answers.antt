@@ -8,5 +8,5 @@ ruleset echoes = (rules, echo_whole, echo_bare)
 pub returns-then-is_text : goal.returns-then-is_text
 returns-then-is_text c = search echoes
 
-pub returns : goal.returns
-returns c = search echoes
+pub returns-else-is_text : goal.returns-else-is_text
+returns-else-is_text c = search echoes
