@@ -275,3 +275,13 @@ module _ (s : List ℕ) (full : length s ≡ 257) (len b : ℕ) where
           let few = fits in
           let n : length (Held ++ b ∷ []) ≡ len + 1 = let k = size_at s full len (omega arith) in snoc_length Held b ∙ rw k in
           rw (held_at s full len (omega arith), cut_held Held b e short (sym g ∙ y), laid, n)
+
+-- ---- what the proofs of the code list
+
+pub ruleset pasts = (past_below, past_at, past_above)
+
+pub ruleset ends = (end_dropped, end_none, end_line, end_full)
+
+pub ruleset prompts = (prompt_one, prompt_first, prompt_far)
+
+pub ruleset pushes = (push_lf, push_past, push_prompt, push_more)

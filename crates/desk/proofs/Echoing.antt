@@ -36,3 +36,9 @@ module _ (sent l : List ℕ) {t : Bool} (is : t ≡ same l sent) where
   pub echo_bare : t ≡ false → {p : List ℕ} → p ≡ bare sent → {u : Bool} → u ≡ same l p → u ≡ is_echo sent l
   unfolding is_echo
   echo_bare e f g = rw (sym is ∙ e) (g ∙ ap (same l) f)
+
+-- ---- what the proofs of the code list
+
+pub ruleset bares = (cr_some, bare_cut, bare_whole)
+
+pub ruleset echoes = (echo_whole, echo_bare)

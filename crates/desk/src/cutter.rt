@@ -31,6 +31,7 @@ pub struct Found {
 }
 
 // A line without the one CR at its end.
+#[tactic(auto, using(crate::proofs::Echoing::bares))]
 pub(crate) fn without_cr(line: &[u8]) -> &[u8]
     ensures { result.now ≡ bare line.now }
 {
@@ -42,6 +43,7 @@ pub(crate) fn without_cr(line: &[u8]) -> &[u8]
 }
 
 // What an LF makes of the len bytes before it.
+#[tactic(auto, using(crate::proofs::Cutting::ends))]
 fn end_of(line: &[u8; 257], len: usize) -> Option<Piece>
     ensures { found_line result line.now ≡ line_of (cut_one (view_of (tray_of line.now len)) 10).piece }
 {
@@ -56,6 +58,7 @@ fn end_of(line: &[u8; 257], len: usize) -> Option<Piece>
 }
 
 // Whether b makes "> " of the one byte that is held.
+#[tactic(auto, using(crate::proofs::Cutting::prompts))]
 fn is_prompt(line: &[u8; 257], len: usize, b: u8) -> bool
     requires { len ≤ 257 }
     ensures { result ≡ is_prompt (take len line.now ++ b ∷ []) }
@@ -64,6 +67,7 @@ fn is_prompt(line: &[u8; 257], len: usize, b: u8) -> bool
 }
 
 // Whether a line of len bytes is past its length with b: only a CR may stand behind 256.
+#[tactic(auto, using(crate::proofs::Cutting::pasts))]
 fn is_past(len: usize, b: u8) -> bool
     ensures { Past len b result }
 {
@@ -71,6 +75,7 @@ fn is_past(len: usize, b: u8) -> bool
 }
 
 // One byte.
+#[tactic(auto, using(crate::proofs::Cutting::pushes))]
 fn push(line: &mut [u8; 257], len: usize, b: u8) -> Pushed
     ensures { pushed_says result line.new ≡ buffered (tray_of line.old len) b }
 {

@@ -14,6 +14,7 @@ pub(crate) fn size_of(sent: &[u8], echo: usize) -> usize
 }
 
 // Whether the line equals the command, with or without its final CR.
+#[tactic(auto, using(crate::proofs::Echoing::echoes))]
 pub(crate) fn is_echo(line: &[u8], sent: &[u8]) -> bool
     ensures { result ≡ is_echo sent.now line.now }
 {

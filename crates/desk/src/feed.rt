@@ -6,6 +6,7 @@ ghost use Rattle.desk.specs.Says.{kept_says, event_says, found_line, size_of, he
 ghost use Rattle.desk.specs.Keeps.{FeedKeeps, FeedOnKeeps};
 
 use crate::cutter::{Found, Piece};
+use crate::judge::Judged;
 use crate::{Desk, Event, State, cutter, echo, judge, ordinal};
 use text::copy;
 use trial::straight;
@@ -43,39 +44,20 @@ pub struct FedParts {
 fn rule_line(state: State, sent: &[u8], line: &[u8]) -> (State, Event)
     ensures { Judges (kept_says sent.now state) line.now (kept_says sent.now result.0) (event_says result.1) × (result.0.len ≡ state.len) }
 {
-    let counted = ordinal::next(state.counted);
-    let echo = echo::size_of(sent, state.echo);
-    if echo == 0 {
-        let judged = judge::judge(state.command, straight::sort_of(line));
-        return (
-            State {
-                command: judged.command,
-                echo,
-                counted,
-                ..state
-            },
-            judged.event,
-        );
+    let state = State {
+        echo: echo::size_of(sent, state.echo),
+        counted: ordinal::next(state.counted),
+        ..state
+    };
+    if state.echo == 0 {
+        let Judged { command, event } = judge::judge(state.command, straight::sort_of(line));
+        return (State { command, ..state }, event);
     }
-    if echo::is_echo(line, &sent[..echo]) {
-        return (
-            State {
-                echo: 0,
-                counted,
-                ..state
-            },
-            Event::Echo,
-        );
+    if echo::is_echo(line, &sent[..state.echo]) {
+        return (State { echo: 0, ..state }, Event::Echo);
     }
     let judged = judge::judge(None, straight::sort_of(line));
-    (
-        State {
-            echo,
-            counted,
-            ..state
-        },
-        judged.event,
-    )
+    (state, judged.event)
 }
 
 // What a search stopped at, if anything, and the state after it; a line is laid in text.
@@ -94,32 +76,27 @@ fn rule(
     };
     match piece {
         Piece::Overlong => {
-            let ordinal = ordinal::next(state.counted);
             let state = State {
                 echo: echo::size_of(sent, state.echo),
-                counted: ordinal,
+                counted: ordinal::next(state.counted),
                 ..state
             };
-            (
-                state,
-                Some(Heard {
-                    event: Event::Overlong,
-                    ordinal,
-                    size: 0,
-                }),
-            )
+            let heard = Heard {
+                event: Event::Overlong,
+                ordinal: state.counted,
+                size: 0,
+            };
+            (state, Some(heard))
         }
         Piece::Line(size) => {
             let (state, event) = rule_line(state, sent, &line[..size]);
             let _end = copy::lay(&line[..size], 0, text);
-            (
-                state,
-                Some(Heard {
-                    event,
-                    ordinal: state.counted,
-                    size,
-                }),
-            )
+            let heard = Heard {
+                event,
+                ordinal: state.counted,
+                size,
+            };
+            (state, Some(heard))
         }
     }
 }

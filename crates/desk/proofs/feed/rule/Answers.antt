@@ -7,7 +7,7 @@ use Rattle.desk.proofs.feed.rule.Goals as goal
 
 pub returns-in-Overlong : goal.returns-in-Overlong
 returns-in-Overlong c = let k = kept_says c.args.sent.now c.args.state in
-    (λ taken. rw (c.in-Some.is, c.in-Overlong.is) (ruled_overlong k _ _ (overlong_keeps k _ c.size_of.ensures c.next-ordinal.ensures)), refl)
+    (λ taken. rw (c.in-Some.is, c.in-Overlong.is) (ruled_overlong k _ _ (overlong_keeps k _ c.size_of.ensures c.next.ensures)), refl)
 
 pub returns-in-Line : goal.returns-in-Line
 returns-in-Line c = let fits = rw (c.in-Some.is, c.in-Line.is) at c.requires.0 in
