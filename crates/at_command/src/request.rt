@@ -15,7 +15,7 @@ use crate::httptofs::DownloadToFileSystem;
 use text::refusal::Refusal;
 
 // The kinds of response, in the order of trial.
-#[derive(Clone, Copy)]
+#[derive(Clone, Copy, Debug, PartialEq, Eq)]
 pub enum ResponseKind {
     GenericOk,
     SimError,
@@ -77,7 +77,7 @@ impl ResponseKind {
 }
 
 // The answers that a request awaits, in order.
-#[derive(Clone, Copy)]
+#[derive(Clone, Copy, Debug, PartialEq, Eq)]
 pub enum Awaits {
     One(ResponseKind),
     Two(ResponseKind, ResponseKind),

@@ -4,18 +4,19 @@ use mathlib.Core.Path.{◌≡◌, refl, sym, ap, ◌∙◌}
 use mathlib.Core.List.{List, [], ◌∷◌}
 use Rattle.std.specs.Prelude.{Option, Some, None, Result, Ok, Err}
 use lib.ListN.{replicate}
-use Rattle.text.specs.Reading.{Reading, read, refused}
+use Rattle.text.specs.declared.refusal.Refusal.{Refusal}
+use Rattle.text.proofs.One.{one_reading}
+use Rattle.text.proofs.Refusals.{check_at, back_check}
 use Rattle.at_command.specs.Kind.{Kind}
 use Rattle.at_command.specs.says.Request.{encoded_says}
 use Rattle.at_command.specs.declared.request.Awaits.{Awaits}
 use Rattle.at_command.specs.declared.request.Awaits.TheVariants.{One, Two}
 use Rattle.at_command.specs.declared.request.Request.{Request}
-use Rattle.at_command.specs.declared.request.Encoded.{Encoded}
-use Rattle.at_command.proofs.OneRequest.{encoded, encoded_back, kind, kind_back}
+use Rattle.at_command.proofs.OneRequest.{kind, kind_back}
 use Rattle.desk.specs.Judge as J
 use Rattle.desk.specs.Desk as D
 use Rattle.desk.specs.Desk.{quiet, event}
-use Rattle.desk.specs.Says.{command_says, event_says, heard_says, answer_says, state_in, state_of, opened_parts_says}
+use Rattle.desk.specs.Says.{command_says, stray_says, event_says, feed_says, answer_says, state_in, state_of, opened_parts_says}
 use Rattle.desk.specs.Keeps.{NewKeeps, ResetKeeps, FeedKeeps, FeedLentKeeps, FeedOnKeeps, OpenKeeps, OpenLentKeeps, OpenOnKeeps, OpenEchoOnKeeps}
 use Rattle.desk.specs.Rules.{Mode}
 use Rattle.desk.specs.declared.Event.{Event}
@@ -43,9 +44,21 @@ command_back None = refl
 command_back (Some (One a)) = rw (kind_back a)
 command_back (Some (Two a b)) = rw (kind_back a, kind_back b)
 
+stray_of : Result Unit Refusal → Option Refusal
+stray_of (Ok v) = None
+stray_of (Err k) = Some k
+
+pub stray_in : ℕ → Option Refusal
+stray_in n = stray_of (check_at n)
+
+pub stray_back : (o : Option Refusal) → stray_in (stray_says o) ≡ o
+unfolding stray_in stray_of
+stray_back None = ap stray_of (back_check (Ok tt))
+stray_back (Some k) = ap stray_of (back_check (Err k))
+
 unfoldable pub event_in : J.Event → Event
 event_in J.Overlong = E.Overlong
-event_in (J.Stray n) = E.Stray n
+event_in (J.Stray n) = E.Stray (stray_in n)
 event_in J.Failed = E.Failed
 event_in J.Taken = E.Taken
 event_in J.Done = E.Done
@@ -56,7 +69,7 @@ event_in J.Echo = E.Echo
 event_back : (e : Event) → event_in (event_says e) ≡ e
 unfolding event_in
 event_back E.Overlong = refl
-event_back (E.Stray n) = refl
+event_back (E.Stray o) = ap E.Stray (stray_back o)
 event_back E.Failed = refl
 event_back E.Taken = refl
 event_back E.Done = refl
@@ -68,19 +81,13 @@ unfoldable pub heard_in : D.Heard → Feed
 heard_in (quiet n) = record { taken = n; heard = None }
 heard_in (event e ordinal n size) = record { taken = n; heard = Some (record { event = event_in e; ordinal = ordinal; size = size }) }
 
-heard_back : (n : ℕ) (h : Option Heard) → heard_in (heard_says n h) ≡ record { taken = n; heard = h }
+heard_back : (f : Feed) → heard_in (feed_says f) ≡ f
 unfolding heard_in
-heard_back n None = refl
-heard_back n (Some h) = ap (λ (e : Event). record { taken = n; heard = Some (record { event = e; ordinal = h.ordinal; size = h.size }) }) (event_back h.event)
-
-unfoldable pub answer_in : Reading D.Heard → Result Feed ℕ
-answer_in (refused k) = Err k
-answer_in (read h) = Ok (heard_in h)
-
-answer_back : (a : Result Feed ℕ) → answer_in (answer_says a) ≡ a
-unfolding answer_in
-answer_back (Err k) = refl
-answer_back (Ok f) = ap Ok (heard_back f.taken f.heard)
+heard_back f = by f.heard
+  where
+    by : (h : Option Heard) → heard_in (feed_says (record { taken = f.taken; heard = h })) ≡ record { taken = f.taken; heard = h }
+    by None = refl
+    by (Some h) = ap (λ (e : Event). record { taken = f.taken; heard = Some (record { event = e; ordinal = h.ordinal; size = h.size }) }) (event_back h.event)
 
 -- the state, and the desk that has it
 abbrev pub state_from : D.State → State
@@ -105,11 +112,11 @@ same_desk d d' e = sym (desk_back d) ∙ ap desk_in e ∙ desk_back d'
 pub same_state : (s s' : State) {line sent line' sent' : List ℕ} → state_in line s sent ≡ state_in line' s' sent' → s ≡ s'
 same_state s s' {line} {sent} {line'} {sent'} e = sym (state_back line sent s) ∙ ap state_from e ∙ state_back line' sent' s'
 
-same_answer : (a b : Result Feed ℕ) → answer_says a ≡ answer_says b → a ≡ b
-same_answer a b e = sym (answer_back a) ∙ ap answer_in e ∙ answer_back b
+same_answer : (a b : Result Feed Refusal) → answer_says a ≡ answer_says b → a ≡ b
+same_answer a b e = one_reading feed_says heard_in heard_back a b _ e refl
 
-same_encoded : (a b : Encoded) → encoded_says a ≡ encoded_says b → a ≡ b
-same_encoded a b e = sym (encoded_back a) ∙ ap encoded e ∙ encoded_back b
+same_encoded : (a b : Result ℕ Refusal) → encoded_says a ≡ encoded_says b → a ≡ b
+same_encoded a b e = one_reading (λ n. n) (λ n. n) (λ n. refl) a b _ e refl
 
 -- one answer: Desk::new
 pub one_new : (r q : Desk) → NewKeeps r → NewKeeps q → r ≡ q
@@ -132,7 +139,7 @@ one_open mode d request first second out r q out' out'' e f =
 
 -- with the desk behind the reference and the output buffer
 -- one answer: Desk::open_lent, Desk::open_echo_lent
-pub one_open_lent : (mode : Mode) (d : Desk) (request : Request) (first second out : List ℕ) (d' d'' : Desk) (r q : Encoded) (out' out'' : List ℕ)
+pub one_open_lent : (mode : Mode) (d : Desk) (request : Request) (first second out : List ℕ) (d' d'' : Desk) (r q : Result ℕ Refusal) (out' out'' : List ℕ)
     → OpenLentKeeps mode d request first second out d' r out' → OpenLentKeeps mode d request first second out d'' q out'' → (d' ≡ d'') × (r ≡ q) × (out' ≡ out'')
 one_open_lent mode d request first second out d' d'' r q out' out'' e f =
     let g = e ∙ sym f in
@@ -172,7 +179,7 @@ one_feed d chunk text r q text' text'' e f =
 
 -- with the desk behind the reference and the text buffer
 -- one answer: Desk::feed_lent
-pub one_feed_lent : (d : Desk) (chunk text : List ℕ) (d' d'' : Desk) (r q : Result Feed ℕ) (text' text'' : List ℕ) → FeedLentKeeps d chunk text d' r text'
+pub one_feed_lent : (d : Desk) (chunk text : List ℕ) (d' d'' : Desk) (r q : Result Feed Refusal) (text' text'' : List ℕ) → FeedLentKeeps d chunk text d' r text'
     → FeedLentKeeps d chunk text d'' q text'' → (d' ≡ d'') × (r ≡ q) × (text' ≡ text'')
 one_feed_lent d chunk text d' d'' r q text' text'' e f =
     let g = e ∙ sym f in

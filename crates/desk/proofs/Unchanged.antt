@@ -13,7 +13,7 @@ use Rattle.text.specs.Bytes.{bytes, same, starts_with, ends_with}
 use Rattle.text.specs.Reading.{Reading, read, refused}
 use Rattle.at_command.specs.says.Request.{encoded_says}
 use Rattle.at_command.specs.declared.request.Request.{Request}
-use Rattle.at_command.specs.declared.request.Encoded.{Encoded}
+use Rattle.text.specs.declared.refusal.Refusal.{Refusal}
 use Rattle.desk.specs.Cut.{held, bare, cut_one}
 use Rattle.trial.specs.Sort.{line_sort}
 use Rattle.desk.specs.Machine.{tells, feed, command_of, event_of}
@@ -58,7 +58,7 @@ pub feed_refused : (d : Desk) (chunk text : List ℕ) (r : FedCode) (text' : Lis
     → (r.desk ≡ d) × (text' ≡ text)
 feed_refused d chunk text r text' kept e = let s = fed_same (state_of d) chunk text (fed_says r text') kept e in (same_desk r.desk d s.0, s.1)
 
-pub feed_lent_refused : (d : Desk) (chunk text : List ℕ) (d' : Desk) (r : Result Feed ℕ) (text' : List ℕ) {k : ℕ} → FeedLentKeeps d chunk text d' r text' → answer_says r ≡ refused k
+pub feed_lent_refused : (d : Desk) (chunk text : List ℕ) (d' : Desk) (r : Result Feed Refusal) (text' : List ℕ) {k : ℕ} → FeedLentKeeps d chunk text d' r text' → answer_says r ≡ refused k
     → (d' ≡ d) × (text' ≡ text)
 feed_lent_refused d chunk text d' r text' kept e = feed_refused d chunk text (record { desk = d'; answer = r }) text' kept e
 
@@ -74,7 +74,7 @@ pub open_refused : (mode : Mode) (d : Desk) (request : Request) (first second ou
     → encoded_says r.answer ≡ refused k → (r.desk ≡ d) × (out' ≡ out)
 open_refused mode d request first second out r out' kept e = let s = opened_same (state_of d) out _ _ kept e in (same_desk r.desk d s.0, s.1)
 
-pub open_lent_refused : (mode : Mode) (d : Desk) (request : Request) (first second out : List ℕ) (d' : Desk) (r : Encoded) (out' : List ℕ) {k : ℕ}
+pub open_lent_refused : (mode : Mode) (d : Desk) (request : Request) (first second out : List ℕ) (d' : Desk) (r : Result ℕ Refusal) (out' : List ℕ) {k : ℕ}
     → OpenLentKeeps mode d request first second out d' r out' → encoded_says r ≡ refused k → (d' ≡ d) × (out' ≡ out)
 open_lent_refused mode d request first second out d' r out' kept e = open_refused mode d request first second out (record { desk = d'; answer = r }) out' kept e
 

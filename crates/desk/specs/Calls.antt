@@ -3,7 +3,7 @@
 use Rattle.std.specs.Prelude.{ℕ, ◌≡◌, true, List, length, Result}
 use Rattle.at_command.specs.says.Request.{encoded_says}
 use Rattle.at_command.specs.declared.request.Request.{Request}
-use Rattle.at_command.specs.declared.request.Encoded.{Encoded}
+use Rattle.text.specs.declared.refusal.Refusal.{Refusal}
 use Rattle.desk.specs.Judge as J
 use Rattle.desk.specs.Desk.{State}
 use Rattle.desk.specs.Says.{state_in, state_of, answer_says}
@@ -21,7 +21,7 @@ use Rattle.desk.specs.declared.open.OpenedParts.{OpenedParts}
 pub data DeskOpens : State → J.Command → State → Type 0 where
   value : (mode : Mode) (d : Desk) (request : Request) (first second out : List ℕ) (r : Opened) (out' : List ℕ) → OpenKeeps mode d request first second out r out'
       → accepts (encoded_says r.answer) ≡ true → DeskOpens (state_of d) (command_by mode request first second) (state_of r.desk)
-  lent : (mode : Mode) (d : Desk) (request : Request) (first second out : List ℕ) (d' : Desk) (r : Encoded) (out' : List ℕ)
+  lent : (mode : Mode) (d : Desk) (request : Request) (first second out : List ℕ) (d' : Desk) (r : Result ℕ Refusal) (out' : List ℕ)
       → OpenLentKeeps mode d request first second out d' r out'
       → accepts (encoded_says r) ≡ true → DeskOpens (state_of d) (command_by mode request first second) (state_of d')
   parts : (line : List ℕ) (state : StateCode) (sent : List ℕ) (request : Request) (first second out : List ℕ) (r : OpenedParts) (out' : List ℕ)
@@ -36,7 +36,7 @@ pub data DeskOpens : State → J.Command → State → Type 0 where
 pub data DeskFeeds : State → Turn → State → Type 0 where
   value : (d : Desk) (chunk text : List ℕ) (r : Fed) (text' : List ℕ) → FeedKeeps d chunk text r text' → accepts (answer_says r.answer) ≡ true
       → DeskFeeds (state_of d) (turn_of chunk (answer_says r.answer) text') (state_of r.desk)
-  lent : (d : Desk) (chunk text : List ℕ) (d' : Desk) (r : Result Feed ℕ) (text' : List ℕ) → FeedLentKeeps d chunk text d' r text' → accepts (answer_says r) ≡ true
+  lent : (d : Desk) (chunk text : List ℕ) (d' : Desk) (r : Result Feed Refusal) (text' : List ℕ) → FeedLentKeeps d chunk text d' r text' → accepts (answer_says r) ≡ true
       → DeskFeeds (state_of d) (turn_of chunk (answer_says r) text') (state_of d')
   parts : (line : List ℕ) (state : StateCode) (sent chunk text : List ℕ) (r : FedParts) (line' text' : List ℕ)
       → FeedOnKeeps line state sent chunk text r line' text' → accepts (answer_says r.answer) ≡ true

@@ -3,7 +3,7 @@ use Rattle.std.specs.Prelude.{ℕ, ◌≡◌, List, length, Result}
 use Rattle.at_command.specs.Request.{encode_reading}
 use Rattle.at_command.specs.says.Request.{asked}
 use Rattle.at_command.specs.declared.request.Request.{Request}
-use Rattle.at_command.specs.declared.request.Encoded.{Encoded}
+use Rattle.text.specs.declared.refusal.Refusal.{Refusal}
 use Rattle.desk.specs.Judge.{Command}
 use Rattle.desk.specs.Rules.{Mode, plain_mode, echo_mode, command_for}
 use Rattle.desk.specs.Desk as D
@@ -30,7 +30,7 @@ ResetKeeps d r = state_of r ≡ reset_state (state_of d)
 abbrev pub FeedKeeps : Desk → List ℕ → List ℕ → Fed → List ℕ → Type 0
 FeedKeeps d chunk text r text' = fed_says r text' ≡ fed (state_of d) chunk text
 
-abbrev pub FeedLentKeeps : Desk → List ℕ → List ℕ → Desk → Result Feed ℕ → List ℕ → Type 0
+abbrev pub FeedLentKeeps : Desk → List ℕ → List ℕ → Desk → Result Feed Refusal → List ℕ → Type 0
 FeedLentKeeps d chunk text d' r text' = fed_lent_says d' r text' ≡ fed (state_of d) chunk text
 
 -- a feed is lent the kept bytes to read: they are after it what they were
@@ -50,7 +50,7 @@ opened_by mode s request first second out = opened s (command_by mode request fi
 abbrev pub OpenKeeps : Mode → Desk → Request → List ℕ → List ℕ → List ℕ → Opened → List ℕ → Type 0
 OpenKeeps mode d request first second out r out' = opened_says r out' ≡ opened_by mode (state_of d) request first second out
 
-abbrev pub OpenLentKeeps : Mode → Desk → Request → List ℕ → List ℕ → List ℕ → Desk → Encoded → List ℕ → Type 0
+abbrev pub OpenLentKeeps : Mode → Desk → Request → List ℕ → List ℕ → List ℕ → Desk → Result ℕ Refusal → List ℕ → Type 0
 OpenLentKeeps mode d request first second out d' r out' = opened_lent_says d' r out' ≡ opened_by mode (state_of d) request first second out
 
 -- no open looks at the line's bytes, and the plain one not at the kept command's: it holds whatever they are

@@ -1,11 +1,12 @@
 -- What the code's types say on paper.
-use Rattle.std.specs.Prelude.{ℕ, List, take, Option, Some, None, Result, Ok, Err}
+use Rattle.std.specs.Prelude.{ℕ, List, take, Option, Some, None, Result}
 use Rattle.std.proofs.Math.Option.{none, some}
 use Rattle.std.proofs.Math.Option as M
-use Rattle.text.specs.Reading.{Reading, read, refused}
+use Rattle.text.specs.Reading.{Reading}
+use Rattle.text.specs.says.Refusal.{number_of, reading_said}
+use Rattle.text.specs.declared.refusal.Refusal.{Refusal}
 use Rattle.at_command.specs.says.Request.{awaits_says, encoded_says}
 use Rattle.at_command.specs.declared.request.Awaits.{Awaits}
-use Rattle.at_command.specs.declared.request.Encoded.{Encoded}
 use Rattle.desk.specs.Machine.{Step, Stop}
 use Rattle.desk.specs.Lines as L
 use Rattle.desk.specs.Lines.{Line}
@@ -35,9 +36,14 @@ abbrev pub command_says : Option Awaits → J.Command
 command_says None = idle
 command_says (Some a) = awaiting (awaits_says a)
 
+-- the number of a stray, 0 where nothing was refused
+abbrev pub stray_says : Option Refusal → ℕ
+stray_says None = 0
+stray_says (Some k) = number_of k
+
 abbrev pub event_says : Event → J.Event
 event_says E.Overlong = J.Overlong
-event_says (E.Stray n) = J.Stray n
+event_says (E.Stray o) = J.Stray (stray_says o)
 event_says E.Failed = J.Failed
 event_says E.Taken = J.Taken
 event_says E.Done = J.Done
@@ -74,9 +80,11 @@ abbrev pub heard_says : ℕ → Option Heard → D.Heard
 heard_says n None = quiet n
 heard_says n (Some h) = event (event_says h.event) h.ordinal n h.size
 
-abbrev pub answer_says : Result Feed ℕ → Reading D.Heard
-answer_says (Err k) = refused k
-answer_says (Ok f) = read (heard_says f.taken f.heard)
+abbrev pub feed_says : Feed → D.Heard
+feed_says f = heard_says f.taken f.heard
+
+abbrev pub answer_says : Result Feed Refusal → Reading D.Heard
+answer_says = reading_said feed_says
 
 -- an answer, with the lent buffers as they are after the call
 abbrev pub fed_says : Fed → List ℕ → D.Fed
@@ -92,10 +100,10 @@ abbrev pub opened_parts_says : OpenedParts → List ℕ → List ℕ → List �
 opened_parts_says r line sent out = record { state = state_in line r.state sent; answer = encoded_says r.answer; out = out }
 
 -- a call on a lent desk says what the call by value says, with the desk that stands behind the reference after it for the one handed back
-abbrev pub fed_lent_says : Desk → Result Feed ℕ → List ℕ → D.Fed
+abbrev pub fed_lent_says : Desk → Result Feed Refusal → List ℕ → D.Fed
 fed_lent_says d r text = fed_says (record { desk = d; answer = r }) text
 
-abbrev pub opened_lent_says : Desk → Encoded → List ℕ → D.Opened
+abbrev pub opened_lent_says : Desk → Result ℕ Refusal → List ℕ → D.Opened
 opened_lent_says d r out = opened_says (record { desk = d; answer = r }) out
 
 -- a byte, and a search, with the buffer as it is afterwards

@@ -9,6 +9,7 @@ use crate::cutter::{Found, Piece};
 use crate::judge::Judged;
 use crate::{Desk, Event, State, cutter, echo, judge, ordinal};
 use text::copy;
+use text::refusal::Refusal;
 use trial::straight;
 
 // An event, the ordinal of its line, and the line's size: the line is at the front of the text buffer.
@@ -26,18 +27,18 @@ pub struct Feed {
     pub heard: Option<Heard>,
 }
 
-// Refused, with 10, if the text buffer is under 256 bytes.
+// Refused if the text buffer has fewer than 256 bytes.
 #[derive(Clone, Copy)]
 pub struct Fed {
     pub desk: Desk,
-    pub answer: Result<Feed, u8>,
+    pub answer: Result<Feed, Refusal>,
 }
 
 // The answer of a feed on a desk that is lent in parts.
 #[derive(Clone, Copy)]
 pub struct FedParts {
     pub state: State,
-    pub answer: Result<Feed, u8>,
+    pub answer: Result<Feed, Refusal>,
 }
 
 // What a line is, and the state after it: the line that is awaited is Echo; any other before it is what it is to an idle desk; where no echo is awaited the table decides.
@@ -114,7 +115,7 @@ pub fn feed_on(
     if text.len() < 256 {
         return FedParts {
             state,
-            answer: Err(10),
+            answer: Err(Refusal::TextBufferTooSmall),
         };
     }
     let Found { taken, len, piece } = cutter::search(line, state.len, chunk);

@@ -4,12 +4,13 @@ ghost use Rattle.text.specs.Reading.{read};
 ghost use Rattle.at_command.specs.says.Request.{kind_says, awaits_says};
 ghost use Rattle.trial.specs.Sort.{response};
 ghost use Rattle.trial.specs.says.Line.{sort_says};
-ghost use Rattle.desk.specs.Judge.{same_kind, table};
+ghost use Rattle.desk.specs.Judge.{table};
 ghost use Rattle.desk.specs.Says.{command_says, ruling_says};
 ghost use Rattle.desk.specs.Search.{Next};
 
 use crate::Event;
 use at_command::request::{Awaits, ResponseKind};
+use text::refusal::Refusal;
 use trial::Sort;
 
 // An event, and the command after it.
@@ -17,12 +18,6 @@ use trial::Sort;
 pub struct Judged {
     pub command: Option<Awaits>,
     pub event: Event,
-}
-
-fn same(a: ResponseKind, b: ResponseKind) -> bool
-    ensures { result ≡ same_kind (kind_says a) (kind_says b) }
-{
-    a.place() == b.place()
 }
 
 // The answer that is awaited next, and what it is once it comes.
@@ -53,22 +48,22 @@ fn respond(command: Option<Awaits>, kind: ResponseKind) -> Judged
 {
     let stays = Judged {
         command,
-        event: Event::Stray(0),
+        event: Event::Stray(None),
     };
     let Some(awaits) = command else {
         return stays;
     };
     let (next, taken) = next_of(awaits);
-    if same(kind, ResponseKind::SimError) {
+    if kind == ResponseKind::SimError {
         return Judged {
             command: None,
             event: Event::Failed,
         };
     }
-    if same(kind, next) {
+    if kind == next {
         return taken;
     }
-    if same(kind, ResponseKind::GenericOk) {
+    if kind == ResponseKind::GenericOk {
         return Judged {
             command: None,
             event: Event::Short,
@@ -78,18 +73,18 @@ fn respond(command: Option<Awaits>, kind: ResponseKind) -> Judged
 }
 
 // The first row that fits decides.
-pub(crate) fn judge(command: Option<Awaits>, sort: Sort) -> Judged
+pub(crate) fn judge(command: Option<Awaits>, sort: Result<Sort, Refusal>) -> Judged
     ensures { ruling_says result ≡ table (command_says command) (sort_says sort) }
 {
     match sort {
-        Sort::Refused(n) => Judged {
+        Err(refusal) => Judged {
             command,
-            event: Event::Stray(n),
+            event: Event::Stray(Some(refusal)),
         },
-        Sort::Unsolicited => Judged {
+        Ok(Sort::Unsolicited) => Judged {
             command,
             event: Event::Unsolicited,
         },
-        Sort::Response(kind) => respond(command, kind),
+        Ok(Sort::Response(kind)) => respond(command, kind),
     }
 }

@@ -16,13 +16,14 @@ mod ordinal;
 mod reset;
 
 use at_command::request::Awaits;
+use text::refusal::Refusal;
 pub use feed::{Fed, FedParts, Feed, Heard, feed_on};
 pub use open::{Opened, OpenedParts, open_echo_on, open_on};
 
 // What a desk keeps beside its two buffers, in numbers but for the command. Every value of every
 // field has a meaning, so no state is ill-formed. By default it is that of a new desk: zeros, and
 // no command.
-#[derive(Clone, Copy, Default)]
+#[derive(Clone, Copy, Debug, Default, PartialEq, Eq)]
 pub struct State {
     // How many bytes are held of the line that is coming. Above 257 it is being dropped.
     pub len: usize,
@@ -44,10 +45,11 @@ pub struct Desk {
 }
 
 // What a line, or the end of one past its length, tells.
-#[derive(Clone, Copy)]
+#[derive(Clone, Copy, Debug, PartialEq, Eq)]
 pub enum Event {
     Overlong,
-    Stray(u8),
+    // No answer that is awaited, and why it is no line that is read, if it is none.
+    Stray(Option<Refusal>),
     Failed,
     Taken,
     Done,
@@ -72,12 +74,12 @@ impl Event {
         }
     }
 
-    // The number of a stray, 0 of any other event.
+    // The number of a stray that is refused, 0 of any other event.
     pub fn stray(self) -> u64
         ensures { Gives (stray_number (event_says self)) result }
     {
         match self {
-            Event::Stray(n) => n.into(),
+            Event::Stray(Some(refusal)) => refusal.number().into(),
             _ => 0,
         }
     }

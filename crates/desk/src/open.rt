@@ -3,21 +3,22 @@ ghost use Rattle.desk.specs.Keeps.{OpenKeeps, OpenOnKeeps, OpenEchoOnKeeps};
 ghost use Rattle.desk.specs.Rules.{plain_mode, echo_mode};
 
 use crate::{Desk, State};
-use at_command::request::{Encoded, Request};
+use at_command::request::Request;
+use text::refusal::Refusal;
 use text::{copy, part};
 
-// The size of the command that was written, or the refusal: 8, 9, 5, 12, 6, 7.
+// The size of the command that was written. Refused while a command is open or a line is held, and as the writer refuses.
 #[derive(Clone, Copy)]
 pub struct Opened {
     pub desk: Desk,
-    pub answer: Encoded,
+    pub answer: Result<usize, Refusal>,
 }
 
 // The answer of an open on a desk that is lent in parts.
 #[derive(Clone, Copy)]
 pub struct OpenedParts {
     pub state: State,
-    pub answer: Encoded,
+    pub answer: Result<usize, Refusal>,
 }
 
 // An open on a desk that is lent in parts: no open looks at the line's bytes, and this one not at what was sent.
@@ -33,19 +34,19 @@ pub fn open_on(
     if state.command.is_some() {
         return OpenedParts {
             state,
-            answer: Encoded::Refused(8),
+            answer: Err(Refusal::CommandOpen),
         };
     }
     if state.len > 0 {
         return OpenedParts {
             state,
-            answer: Encoded::Refused(9),
+            answer: Err(Refusal::LineHeld),
         };
     }
     let answer = request.encode(first, second, out);
     match answer {
-        Encoded::Refused(_) => OpenedParts { state, answer },
-        Encoded::Size(_) => OpenedParts {
+        Err(_) => OpenedParts { state, answer },
+        Ok(_) => OpenedParts {
             state: State {
                 command: Some(request.awaits()),
                 echo: 0,
@@ -69,18 +70,16 @@ pub fn open_echo_on(
     ensures { OpenEchoOnKeeps state sent.old request first.now second.now out.old result sent.new out.new }
 {
     let opened = open_on(state, request, first, second, out);
-    match opened.answer {
-        Encoded::Refused(_) => opened,
-        Encoded::Size(n) => {
-            let _end = copy::lay(part::part(out, 0, n), 0, sent);
-            OpenedParts {
-                state: State {
-                    echo: n,
-                    ..opened.state
-                },
-                ..opened
-            }
-        }
+    let Ok(size) = opened.answer else {
+        return opened;
+    };
+    let _end = copy::lay(part::part(out, 0, size), 0, sent);
+    OpenedParts {
+        state: State {
+            echo: size,
+            ..opened.state
+        },
+        ..opened
     }
 }
 

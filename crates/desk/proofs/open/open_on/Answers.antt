@@ -13,12 +13,12 @@ returns-then-is_some c = λ bytes sent full. open_busy _ _ _ _ (some_open _ ∙ 
 pub returns-then-state-gt0 : goal.returns-then-state-gt0
 returns-then-state-gt0 c = λ bytes sent full. open_held _ _ (some_open _ ∙ sym c.is_some.ensures ∙ c.if-is_some.false) _ _ (clear_not _ full c.if-state-gt0.true)
 
-pub returns-in-Refused : goal.returns-in-Refused
-returns-in-Refused c = λ bytes sent full. let e = c.encode-answer.ensures in
-    open_refused _ _ (some_open _ ∙ sym c.is_some.ensures ∙ c.if-is_some.false) (clear_empty (tray_of bytes c.args.state.len) c.if-state-gt0.false) _ _ (ap encoded_says c.in-Refused.is) e.says e.holds
+pub returns-in-Err : goal.returns-in-Err
+returns-in-Err c = λ bytes sent full. let e = c.encode-answer.ensures in
+    open_refused _ _ (some_open _ ∙ sym c.is_some.ensures ∙ c.if-is_some.false) (clear_empty (tray_of bytes c.args.state.len) c.if-state-gt0.false) _ _ (ap encoded_says c.in-Err.is) e.says e.holds
 
-pub returns-in-Size : goal.returns-in-Size
-returns-in-Size c = λ bytes sent full. let a = c.args in
+pub returns-in-Ok : goal.returns-in-Ok
+returns-in-Ok c = λ bytes sent full. let a = c.args in
     let e = c.encode-answer.ensures in
     rw (c.awaits.ensures ∙ sym (any_texts a.request a.first.now a.second.now))
-    (open_written _ _ (some_open _ ∙ sym c.is_some.ensures ∙ c.if-is_some.false) (clear_empty (tray_of bytes c.args.state.len) c.if-state-gt0.false) _ _ (ap encoded_says c.in-Size.is) e.says e.holds)
+    (open_written _ _ (some_open _ ∙ sym c.is_some.ensures ∙ c.if-is_some.false) (clear_empty (tray_of bytes c.args.state.len) c.if-state-gt0.false) _ _ (ap encoded_says c.in-Ok.is) e.says e.holds)
