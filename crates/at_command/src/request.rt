@@ -63,7 +63,7 @@ impl ResponseKind {
 }
 
 // The answers that a request awaits, in order.
-#[derive(Clone, Copy)]
+#[derive(Clone, Copy, Debug, PartialEq, Eq)]
 pub enum Awaits {
     One(ResponseKind),
     Two(ResponseKind, ResponseKind),

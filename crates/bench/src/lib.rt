@@ -4,7 +4,7 @@
 ghost use Rattle.bench.specs.Bench.{BenchFeedKeeps};
 ghost use Rattle.bench.specs.Sort.{SortInOrderKeeps};
 
-use desk::{Command, Cutter, Desk, FedAnswer};
+use desk::{Desk, State};
 use trial::Sort;
 
 // 10, with all as before; or 1 with an event and 0 without one, and told has the bytes taken and the size of the line in text.
@@ -18,41 +18,30 @@ pub extern "C" fn bench_feed(
 ) -> u8
     ensures { BenchFeedKeeps line.old len.old chunk.now text.old told.old result line.new len.new text.new told.new }
 {
-    let bytes = *line;
-    let held = *len;
     let desk = Desk {
-        cutter: Cutter {
-            line: bytes,
-            len: held,
+        line: *line,
+        sent: [0; 210],
+        state: State {
+            len: *len,
+            ..State::default()
         },
-        command: Command::Idle,
-        sent: [0u8; 210],
-        echo: 0,
-        counted: 0,
     };
     let fed = desk.feed(chunk, text);
-    let after = fed.desk;
-    let cutter = after.cutter;
-    let answer = fed.answer;
-    match answer {
-        FedAnswer::Refused(k) => k,
-        FedAnswer::Quiet(taken) => {
-            let line_after = cutter.line;
-            *line = line_after;
-            *len = cutter.len;
-            *told = [taken, 0];
+    let feed = match fed.answer {
+        Err(k) => return k,
+        Ok(feed) => feed,
+    };
+    // The borrow checker takes an array from a variable alone.
+    let bytes = fed.desk.line;
+    *line = bytes;
+    *len = fed.desk.state.len;
+    match feed.heard {
+        None => {
+            *told = [feed.taken, 0];
             0
         }
-        FedAnswer::Heard {
-            event: _,
-            ordinal: _,
-            taken,
-            size,
-        } => {
-            let line_after = cutter.line;
-            *line = line_after;
-            *len = cutter.len;
-            *told = [taken, size];
+        Some(heard) => {
+            *told = [feed.taken, heard.size];
             1
         }
     }

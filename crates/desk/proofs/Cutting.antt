@@ -4,17 +4,22 @@ use mathlib.Core.Path.{◌≡◌, refl, sym, ap, ◌∙◌}
 use mathlib.Core.Bool.{Bool, true, false, cond, ◌&&◌, not, and-true, and-false}
 use mathlib.Core.Logic.{⊎_elim}
 use mathlib.Core.List.{List, [], ◌∷◌, ◌++◌}
+use mathlib.Core.Option.{Option, none, some}
 use native.Mathlib.Omega.{arith}
 use lib.ListN.{length, take, drop, get_or, set, length-append}
-use lib.Seq.{length-take-le, take-suc, take-append_seam, drop-append_seam, append_snoc, set_split, take-suc-set}
+use Rattle.std.proofs.lemmas.List.{take-take}
+use lib.Seq.{length-take-le, take-length, take-suc, take-append_seam, drop-append_seam, append_snoc, set_split, take-suc-set}
 use lib.Dec.{ltb, eqb}
 use borrow.Author.Tests.{lt-ltb, le-ltb, ltb-false, eq-eqb, ne_eqb}
 use Rattle.text.specs.Bytes.{bytes, same, starts_with, ends_with}
 use Rattle.text.proofs.Begins.{same_is}
 use Rattle.text.proofs.Finding.{other_length}
 use Rattle.desk.specs.Cut.{View, dropping, held, Piece, nothing, blank, overlong, line, Cut, bare, long, is_prompt, ended, cut_one}
-use Rattle.desk.specs.Desk.{Tray, view_of, len_of, laid_bytes, lay_one}
-use Rattle.desk.specs.Search.{tray_of, Pushed, push_one, Past}
+use Rattle.desk.specs.Machine.{Step}
+use Rattle.desk.specs.Lines as L
+use Rattle.desk.specs.Lines.{Line, line_of}
+use Rattle.desk.specs.Desk.{Tray, view_of, len_of, laid_bytes, lay_one, buffered}
+use Rattle.desk.specs.Search.{tray_of, Past}
 use Rattle.text.proofs.Tests.{both, never}
 
 snoc_length : (h : List ℕ) (b : ℕ) → length (h ++ b ∷ []) ≡ length h + 1
@@ -35,6 +40,13 @@ bare_snoc h b =
     let n : length (h ++ b ∷ []) - 1 ≡ length h = let k = snoc_length h b in omega arith in
     ap (λ (t : Bool). cond t (take (length (h ++ b ∷ []) - 1) (h ++ b ∷ [])) (h ++ b ∷ [])) (ends_cr h b)
     ∙ ap (λ (l : List ℕ). cond (eqb b 13) l (h ++ b ∷ [])) (ap (λ (k : ℕ). take k (h ++ b ∷ [])) n ∙ take-append_seam h (b ∷ []))
+
+-- it is the front of the line
+bare_front : (h : List ℕ) → take (length (bare h)) h ≡ bare h
+unfolding bare
+bare_front h =
+    let n = length-take-le (length h - 1) h (omega arith) in
+    ⊎_elim (λ e. rw e (ap (λ (k : ℕ). take k h) n)) (λ e. rw e (take-length h)) (both (ends_with (bytes "\r") h))
 
 -- ---- a line past its length
 
@@ -76,10 +88,8 @@ module _ (len b : ℕ) where
   pub past_at : len ≡ 256 → Past len b (not (eqb b 13))
   past_at f = record { few = λ _. omega arith; is = λ h e. past_full h b (omega arith) }
 
-  pub past_above : 256 ≤ len → (len ≡ 256 → ⊥) → Past len b true
-  past_above f g =
-      let over : 256 < len = omega arith in
-      record { few = λ e. never (cc); is = λ h e. past_over h b (omega arith) }
+  pub past_above : 256 < len → Past len b true
+  past_above f = record { few = λ e. never (cc); is = λ h e. past_over h b (omega arith) }
 
 -- ---- one byte on paper
 
@@ -158,42 +168,28 @@ module _ (s : List ℕ) (full : length s ≡ 257) where
   end_held : (len : ℕ) → len ≤ 257 → At len 10 ≡ ended (bare (take len s))
   end_held len h = ap (λ (v : View). (cut_one v 10).piece) (held_at len h) ∙ ap (λ (c : Cut). c.piece) (cut_lf (take len s) 10 refl)
 
-  module _ (len : ℕ) where
-    pub end_dropped : 257 < len → overlong ≡ At len 10
-    unfolding cut_one
-    end_dropped h = sym (ap (λ (v : View). (cut_one v 10).piece) (dropped_at len h))
+  pub end_dropped : (len : ℕ) → 257 < len → some L.overlong ≡ line_of (At len 10)
+  unfolding cut_one
+  end_dropped len h = ap line_of (sym (ap (λ (v : View). (cut_one v 10).piece) (dropped_at len h)))
 
-    pub end_none : len ≡ 0 → blank ≡ At len 10
-    unfolding bare same ends_with
-    end_none e = rw e (sym (end_held 0 (omega arith)))
+  -- p is what is held, without its CR
+  module _ {len : ℕ} {p : List ℕ} (h : len ≤ 257) (is : p ≡ bare (take len s)) where
+    end_is : line_of (ended p) ≡ line_of (At len 10)
+    end_is = ap line_of (ap ended is ∙ sym (end_held len h))
 
-    module _ (h : len ≤ 257) (more : len ≡ 0 → ⊥) where
-      last_at : take len s ≡ take (len - 1) s ++ get_or s (len - 1) 0 ∷ []
-      last_at = let e : len ≡ suc (len - 1) = omega arith in ap (λ (n : ℕ). take n s) e ∙ take-suc s (len - 1) 0 (omega arith)
+    pub end_none : length p ≡ 0 → none ≡ line_of (At len 10)
+    end_none e = rw e at end_is
 
-      end_cases : (t : Bool) → eqb (get_or s (len - 1) 0) 13 ≡ t → At len 10 ≡ ended (cond t (take (len - 1) s) (take len s))
-      end_cases t e =
-          end_held len h
-          ∙ ap (λ (l : List ℕ). ended (bare l)) last_at
-          ∙ ap ended (bare_snoc (take (len - 1) s) (get_or s (len - 1) 0) ∙ ap (λ (u : Bool). cond u (take (len - 1) s) (take (len - 1) s ++ get_or s (len - 1) 0 ∷ [])) e)
-          ∙ ap (λ (l : List ℕ). ended (cond t (take (len - 1) s) l)) (sym last_at)
+    pub end_full : 256 < length p → some L.overlong ≡ line_of (At len 10)
+    end_full f = rw (lt-ltb 256 (length p) f) at end_is
 
-      pub end_cr_alone : get_or s (len - 1) 0 ≡ 13 → len - 1 ≡ 0 → blank ≡ At len 10
-      end_cr_alone e z = sym (end_cases true (eq-eqb (get_or s (len - 1) 0) 13 e) ∙ rw z)
+    front : take (length p) s ≡ p
+    front =
+        let few = bare_bounds (take len s) in
+        ap (λ (l : List ℕ). take (length l) s) is ∙ sym (take-take (length (bare (take len s))) len s (omega (arith, few, size_at len h))) ∙ bare_front (take len s) ∙ sym is
 
-      pub end_cr : get_or s (len - 1) 0 ≡ 13 → (len - 1 ≡ 0 → ⊥) → line (take (len - 1) s) ≡ At len 10
-      end_cr e z =
-          let n : length (take (len - 1) s) ≡ len - 1 = size_at (len - 1) (omega arith) in
-          sym (end_cases true (eq-eqb (get_or s (len - 1) 0) 13 e) ∙ ended_line (take (len - 1) s) (omega arith) (λ k. z (omega arith)))
-
-      pub end_full : (get_or s (len - 1) 0 ≡ 13 → ⊥) → len ≡ 257 → overlong ≡ At len 10
-      end_full e z = sym (end_cases false (ne_eqb (get_or s (len - 1) 0) 13 e) ∙ rw (lt-ltb 256 (length (take len s)) (omega (arith, size_at len h))))
-
-      pub end_other : (get_or s (len - 1) 0 ≡ 13 → ⊥) → (len ≡ 257 → ⊥) → line (take len s) ≡ At len 10
-      end_other e z =
-          let n : length (take len s) ≡ len = size_at len h in
-          let few : len < 257 = omega arith in
-          sym (end_cases false (ne_eqb (get_or s (len - 1) 0) 13 e) ∙ ended_line (take len s) (omega arith) (λ k. omega arith))
+    pub end_line : (length p ≡ 0 → ⊥) → length p ≤ 256 → some (L.line (take (length p) s)) ≡ line_of (At len 10)
+    end_line f g = ap (λ (l : List ℕ). some (L.line l)) front ∙ ap line_of (sym (ended_line p g f)) ∙ end_is
 
 -- "> " at a line's start
 pub prompt_length : (l : List ℕ) → is_prompt l ≡ true → length l ≡ 2
@@ -207,11 +203,8 @@ module _ (s : List ℕ) (full : length s ≡ 257) (len b : ℕ) where
   unfolding same starts_with
   prompt_at e = rw (e, take-suc s 0 0 (omega arith))
 
-  pub prompt_one : len ≡ 1 → b ≡ 32 → eqb (get_or s 0 0) 62 ≡ Prompt
-  prompt_one e f = sym (prompt_at e ∙ rw (eq-eqb b 32 f) (and-true (eqb (get_or s 0 0) 62)))
-
-  pub prompt_other : len ≡ 1 → (b ≡ 32 → ⊥) → false ≡ Prompt
-  prompt_other e f = sym (prompt_at e ∙ rw (ne_eqb b 32 f) (and-false (eqb (get_or s 0 0) 62)))
+  pub prompt_one : len ≡ 1 → get_or s 0 0 ≡ 62 → eqb b 32 ≡ Prompt
+  prompt_one e f = sym (prompt_at e ∙ rw (eq-eqb (get_or s 0 0) 62 f) (and-true (eqb b 32)))
 
   pub prompt_first : len ≡ 1 → (get_or s 0 0 ≡ 62 → ⊥) → false ≡ Prompt
   prompt_first e f = sym (prompt_at e ∙ rw (ne_eqb (get_or s 0 0) 62 f))
@@ -232,21 +225,21 @@ module _ (s : List ℕ) (full : length s ≡ 257) (len b : ℕ) where
   abbrev Held : List ℕ
   Held = take len s
 
-  pub push_lf : {p : Piece} → b ≡ 10 → p ≡ (cut_one (view_of (tray_of s len)) 10).piece → ◌≡◌ {A = Pushed} (record { tray = tray_of s 0; piece = p }) (push_one (tray_of s len) b)
-  unfolding lay_one
+  pub push_lf : {o : Option Line} → b ≡ 10 → o ≡ line_of (cut_one (view_of (tray_of s len)) 10).piece → ◌≡◌ {A = Step Tray Line} (record { state = tray_of s 0; tell = o }) (buffered (tray_of s len) b)
+  unfolding buffered lay_one
   push_lf e f = rw (e, f, lay_lf (view_of (tray_of s len)) s)
 
   module _ (e : b ≡ 10 → ⊥) where
-    past_dropped : ◌≡◌ {A = Pushed} (record { tray = tray_of (laid_bytes dropping s b) (len_of (cut_one dropping b).view); piece = (cut_one dropping b).piece }) (record { tray = tray_of s 258; piece = nothing })
+    past_dropped : ◌≡◌ {A = Step Tray Line} (record { state = tray_of (laid_bytes dropping s b) (len_of (cut_one dropping b).view); tell = line_of (cut_one dropping b).piece }) (record { state = tray_of s 258; tell = none })
     unfolding cut_one
     past_dropped = rw (ne_eqb b 10 e)
 
     past_held : (h : List ℕ) → long (bare (h ++ b ∷ [])) ≡ true
-        → ◌≡◌ {A = Pushed} (record { tray = tray_of (laid_bytes (held h) s b) (len_of (cut_one (held h) b).view); piece = (cut_one (held h) b).piece }) (record { tray = tray_of s 258; piece = nothing })
+        → ◌≡◌ {A = Step Tray Line} (record { state = tray_of (laid_bytes (held h) s b) (len_of (cut_one (held h) b).view); tell = line_of (cut_one (held h) b).piece }) (record { state = tray_of s 258; tell = none })
     past_held h f = rw (cut_past h b e f, ne_eqb b 10 e, f)
 
-    pub push_past : {p : Bool} → Past len b p → p ≡ true → ◌≡◌ {A = Pushed} (record { tray = tray_of s 258; piece = nothing }) (push_one (tray_of s len) b)
-    unfolding lay_one
+    pub push_past : {p : Bool} → Past len b p → p ≡ true → ◌≡◌ {A = Step Tray Line} (record { state = tray_of s 258; tell = none }) (buffered (tray_of s len) b)
+    unfolding buffered lay_one
     push_past f z =
         ⊎_elim
         (λ g. rw g (sym past_dropped))
@@ -267,18 +260,28 @@ module _ (s : List ℕ) (full : length s ≡ 257) (len b : ℕ) where
           rw (ne_eqb b 10 e, short, n) (sym (set_split s len b (omega arith)))
 
       pub push_prompt : {q : Bool} → q ≡ is_prompt (Held ++ b ∷ []) → q ≡ true
-          → ◌≡◌ {A = Pushed} (record { tray = tray_of (set s len b) 0; piece = line (take 2 (set s len b)) }) (push_one (tray_of s len) b)
-      unfolding lay_one
+          → ◌≡◌ {A = Step Tray Line} (record { state = tray_of (set s len b) 0; tell = some (L.line (take 2 (set s len b))) }) (buffered (tray_of s len) b)
+      unfolding buffered lay_one
       push_prompt g y =
           let few = fits in
           let one : len ≡ 1 = prompt_size s full len b (omega arith) (sym y ∙ g) in
           rw (held_at s full len (omega arith), cut_prompt Held b e short (sym g ∙ y), laid)
-          (ap (λ (l : List ℕ). record { tray = tray_of (set s len b) 0; piece = line l }) (rw one (take-suc-set s 1 b (omega arith))))
+          (ap (λ (l : List ℕ). record { state = tray_of (set s len b) 0; tell = some (L.line l) }) (rw one (take-suc-set s 1 b (omega arith))))
 
       pub push_more : {q : Bool} → q ≡ is_prompt (Held ++ b ∷ []) → q ≡ false
-          → ◌≡◌ {A = Pushed} (record { tray = tray_of (set s len b) (len + 1); piece = nothing }) (push_one (tray_of s len) b)
-      unfolding lay_one
+          → ◌≡◌ {A = Step Tray Line} (record { state = tray_of (set s len b) (len + 1); tell = none }) (buffered (tray_of s len) b)
+      unfolding buffered lay_one
       push_more g y =
           let few = fits in
           let n : length (Held ++ b ∷ []) ≡ len + 1 = let k = size_at s full len (omega arith) in snoc_length Held b ∙ rw k in
           rw (held_at s full len (omega arith), cut_held Held b e short (sym g ∙ y), laid, n)
+
+-- ---- what the proofs of the code list
+
+pub ruleset pasts = (past_below, past_at, past_above)
+
+pub ruleset ends = (end_dropped, end_none, end_line, end_full)
+
+pub ruleset prompts = (prompt_one, prompt_first, prompt_far)
+
+pub ruleset pushes = (push_lf, push_past, push_prompt, push_more)

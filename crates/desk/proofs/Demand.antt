@@ -161,15 +161,15 @@ module _ (Opens : Openings) (Fed : Feeds) (sound : Sound Opens Fed) where
 desk_opens : (s s' : State) (c : Command) → DeskOpens s c s' → Begins c s'
 desk_opens s s' c (By.value mode d request first second out r out' kept a) = opened_for mode (asked request first second) (state_of d) out _ (opened_says r out') kept a
 desk_opens s s' c (By.lent mode d request first second out d' r out' kept a) = opened_for mode (asked request first second) (state_of d) out _ (opened_lent_says d' r out') kept a
-desk_opens s s' c (By.parts line len command sent echo counted request first second out r out' full kept a) =
-    opened_for plain_mode (asked request first second) (state_in line len command sent echo counted) out _ (opened_parts_says r line len sent out') (kept line sent full) a
-desk_opens s s' c (By.echo_parts line len command sent echo counted request first second out r sent' out' full kept a) =
-    opened_for echo_mode (asked request first second) (state_in line len command sent echo counted) out _ (opened_parts_says r line len sent' out') (kept line full) a
+desk_opens s s' c (By.parts line state sent request first second out r out' full kept a) =
+    opened_for plain_mode (asked request first second) (state_in line state sent) out _ (opened_parts_says r line sent out') (kept line sent full) a
+desk_opens s s' c (By.echo_parts line state sent request first second out r sent' out' full kept a) =
+    opened_for echo_mode (asked request first second) (state_in line state sent) out _ (opened_parts_says r line sent' out') (kept line full) a
 
 desk_feeds : (s s' : State) (t : Turn) → DeskFeeds s t s' → feed desk s t.chunk ≡ record { taken = t.taken; tell = t.seen; state = s' }
 desk_feeds s s' t (By.value d chunk text r text' kept a) = kept_feed (state_of d) chunk text (fed_says r text') kept a
 desk_feeds s s' t (By.lent d chunk text d' r text' kept a) = kept_feed (state_of d) chunk text (fed_lent_says d' r text') kept a
-desk_feeds s s' t (By.parts line len command sent echo counted chunk text r line' text' kept a) = kept_feed (state_in line len command sent echo counted) chunk text (parts_says r line' sent text') kept a
+desk_feeds s s' t (By.parts line state sent chunk text r line' text' kept a) = kept_feed (state_in line state sent) chunk text (parts_says r line' sent text') kept a
 
 pub desk_sound : Sound DeskOpens DeskFeeds
 desk_sound = record { opens = desk_opens; feeds = desk_feeds }

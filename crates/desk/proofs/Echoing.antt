@@ -4,10 +4,8 @@ use mathlib.Core.Path.{◌≡◌, sym, ap, ◌∙◌}
 use mathlib.Core.Bool.{Bool, true, false}
 use mathlib.Core.List.{List, [], ◌∷◌}
 use native.Mathlib.Omega.{arith}
-use lib.ListN.{length}
+use lib.ListN.{length, take}
 use Rattle.text.specs.Bytes.{bytes, same, ends_with}
-use Rattle.text.specs.Part.{part_of}
-use Rattle.text.proofs.Parts.{from_start}
 use Rattle.text.proofs.Tests.{never}
 use Rattle.desk.specs.Cut.{bare}
 use Rattle.desk.specs.Judge.{is_echo}
@@ -22,9 +20,9 @@ module _ (s : List ℕ) {t : Bool} (is : t ≡ ends_with (bytes "\r") s) where
       by [] f = never (cc)
       by (x ∷ l) f = omega arith
 
-  pub bare_cut : t ≡ true → {p : List ℕ} → p ≡ part_of s 0 (length s - 1) → p ≡ bare s
+  pub bare_cut : t ≡ true → take (length s - 1) s ≡ bare s
   unfolding bare
-  bare_cut e f = rw (sym is ∙ e) (f ∙ from_start s (length s - 1))
+  bare_cut e = rw (sym is ∙ e)
 
   pub bare_whole : t ≡ false → s ≡ bare s
   unfolding bare
@@ -38,3 +36,9 @@ module _ (sent l : List ℕ) {t : Bool} (is : t ≡ same l sent) where
   pub echo_bare : t ≡ false → {p : List ℕ} → p ≡ bare sent → {u : Bool} → u ≡ same l p → u ≡ is_echo sent l
   unfolding is_echo
   echo_bare e f g = rw (sym is ∙ e) (g ∙ ap (same l) f)
+
+-- ---- what the proofs of the code list
+
+pub ruleset bares = (cr_some, bare_cut, bare_whole)
+
+pub ruleset echoes = (echo_whole, echo_bare)

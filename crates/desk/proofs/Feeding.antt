@@ -5,6 +5,7 @@ use mathlib.Core.Bool.{true, false}
 use mathlib.Core.Logic.{⊎_elim}
 use mathlib.Core.List.{List, [], ◌∷◌, ◌++◌}
 use mathlib.Core.Option.{Option, none, some, map}
+use Rattle.std.specs.Prelude as C
 use native.Mathlib.Omega.{arith}
 use lib.ListN.{length, take, drop, length-take}
 use lib.Seq.{length-take-le}
@@ -20,7 +21,7 @@ use Rattle.desk.specs.Judge.{Seen, judge}
 use Rattle.desk.specs.Desk as H
 use Rattle.desk.specs.Desk.{Tray, Kept, State, view_of, lay_one, buffered, judge_kept, Heard, event, heard_of, fed}
 use Rattle.desk.specs.Search.{found_after, Judges, Tells}
-use Rattle.desk.specs.Says.{piece_says, size_of}
+use Rattle.desk.specs.Says.{found_line, size_of}
 use Rattle.desk.specs.declared.cutter.Piece.{Piece as PieceCode}
 use Rattle.desk.specs.declared.cutter.Piece.TheVariants as P
 use Rattle.text.specs.Copy.{LayKeeps}
@@ -62,14 +63,13 @@ unfolding feed buffered
 feed_size t [] = omega arith
 feed_size t (b ∷ bs) = onward_size (line_of (cut_one (view_of t) b).piece) (lay_one t b) (feed buffered (lay_one t b) bs) (cut_size (view_of t) b) (feed_size (lay_one t b) bs)
 
-size_in_lem : (p : PieceCode) (s : List ℕ) → length s ≡ 257 → line_size (line_of (piece_says p s)) ≤ 256 → size_of p ≤ 256
-size_in_lem P.Nothing s e h = omega arith
-size_in_lem P.Blank s e h = omega arith
-size_in_lem P.Overlong s e h = omega arith
-size_in_lem (P.Line n) s e h = omega (arith, length-take n s)
+size_in_lem : (p : C.Option PieceCode) (s : List ℕ) → length s ≡ 257 → line_size (found_line p s) ≤ 256 → size_of p ≤ 256
+size_in_lem C.None s e h = omega arith
+size_in_lem (C.Some P.Overlong) s e h = omega arith
+size_in_lem (C.Some (P.Line n)) s e h = omega (arith, length-take n s)
 
 -- the line that a search stops at lies in the array, and has room in a text buffer of 256
-pub found_size : (t : Tray) (chunk : List ℕ) (p : PieceCode) (s : List ℕ) {f : Stop Tray Line} → f.tell ≡ line_of (piece_says p s) → f ≡ found_after 0 t chunk → length s ≡ 257 → size_of p ≤ 256
+pub found_size : (t : Tray) (chunk : List ℕ) (p : C.Option PieceCode) (s : List ℕ) {f : Stop Tray Line} → f.tell ≡ found_line p s → f ≡ found_after 0 t chunk → length s ≡ 257 → size_of p ≤ 256
 found_size t chunk p s g e full =
     size_in_lem p s full (rw (sym g ∙ ap (λ (x : Stop Tray Line). x.tell) e) (feed_size t chunk))
 
@@ -79,17 +79,20 @@ module _ (k : Kept) (n : ℕ) (text : List ℕ) where
   pub ruled_none : Tells k none n text k (read (H.quiet n)) text
   ruled_none = record { commands = refl; answers = refl; texts = refl }
 
-  -- the line's ordinal, as the code has it
-  module _ {ordinal : ℕ} (next : ordinal ≡ capped (suc k.counted)) where
-    pub ruled_overlong : {k' : Kept} → k' ≡ (judge_kept k overlong).command → Tells k (some overlong) n text k' (read (event J.Overlong ordinal n 0)) text
-    unfolding judge_kept judge
-    ruled_overlong e = record { commands = e; answers = rw next; texts = refl }
+  -- the line's ordinal is the count after it
+  pub ruled_overlong : {k' : Kept} → k' ≡ (judge_kept k overlong).command → Tells k (some overlong) n text k' (read (event J.Overlong k'.counted n 0)) text
+  unfolding judge_kept judge
+  ruled_overlong e = record { commands = e; answers = rw e; texts = refl }
 
-    pub ruled_line : (s : List ℕ) (size : ℕ) {k' : Kept} {e : J.Event} {after : List ℕ} → size ≤ length s → Judges k (take size s) k' e → after ≡ take size s ++ drop size text
-        → Tells k (some (line (take size s))) n text k' (read (event e ordinal n size)) after
-    ruled_line s size h j f =
-        let few = length-take-le size s h in
-        record { commands = ap (λ (x : Ruled Kept (Numbered Seen)). x.command) j; answers = rw (← j, few, next); texts = rw (← j, few) f }
+  judged_counts : {l : List ℕ} {k' : Kept} {e : J.Event} → Judges k l k' e → k'.counted ≡ capped (suc k.counted)
+  unfolding judge_kept
+  judged_counts j = ap (λ (x : Ruled Kept (Numbered Seen)). x.command.counted) j
+
+  pub ruled_line : (s : List ℕ) (size : ℕ) {k' : Kept} {e : J.Event} {after : List ℕ} → size ≤ length s → Judges k (take size s) k' e → after ≡ take size s ++ drop size text
+      → Tells k (some (line (take size s))) n text k' (read (event e k'.counted n size)) after
+  ruled_line s size h j f =
+      let few = length-take-le size s h in
+      record { commands = ap (λ (x : Ruled Kept (Numbered Seen)). x.command) j; answers = rw (← j, few, judged_counts j); texts = rw (← j, few) f }
 
 -- the line is laid at the front of the text buffer
 pub laid_front : (s text : List ℕ) (size e : ℕ) (after : List ℕ) → size ≤ length s → size ≤ length text → LayKeeps (take size s) 0 text e after → after ≡ take size s ++ drop size text

@@ -8,10 +8,11 @@ use native.Mathlib.Omega.{arith}
 use lib.ListN.{length, drop}
 use Rattle.text.specs.Reading.{Reading, read}
 use Rattle.at_command.specs.Kind.{Kind, generic_ok, sim_error}
-use Rattle.trial.specs.Sort.{Sort, unsolicited, line_sort}
+use Rattle.trial.specs.Sort.{Sort, response, unsolicited, line_sort}
 use Rattle.desk.specs.Lines.{Line, overlong, line}
 use Rattle.desk.specs.Judge as J
-use Rattle.desk.specs.Judge.{Command, awaiting, echoing, idle, is_open, any_awaited, is_refused, is_response, is_next, is_unsolicited, Ruling, stays, closes, takes_next, table, is_echo, ruling, judge}
+use Rattle.desk.specs.Search.{Next}
+use Rattle.desk.specs.Judge.{same_kind, Command, awaiting, echoing, idle, is_open, any_awaited, is_refused, is_response, is_next, is_unsolicited, Ruling, stays, closes, takes_next, table, is_echo, ruling, judge}
 use Rattle.text.proofs.Tests.{never}
 
 -- an unsolicited line is the command's in no case
@@ -22,6 +23,14 @@ table_unsolicited c = by c.awaited
     by : (ks : List Kind) → table (record { echo = c.echo; awaited = ks }) (read unsolicited) ≡ stays (record { echo = c.echo; awaited = ks }) J.Unsolicited
     by [] = refl
     by (k ∷ ks) = refl
+
+-- a response, where this answer is awaited next
+pub table_response : {ks : List Kind} {next : Kind} {taken : Ruling} (k : Kind) → Next ks next taken
+    → table (awaiting ks) (read (response k))
+    ≡ cond (same_kind k sim_error) (closes J.Failed) (cond (same_kind k next) taken (cond (same_kind k generic_ok) (closes J.Short) (stays (awaiting ks) (J.Stray 0))))
+unfolding table
+table_response {ks = []} k is = let e = is.first in never (cc)
+table_response {ks = n ∷ ks} {next} k is = let e : n ≡ next = (let f = is.first in cc) in rw (is.takes, e)
 
 -- what holds of each row's ruling holds of the table's
 table_cases : (P : Ruling → Type 0) (c : Command) (s : Reading Sort) → P (stays c (J.Stray (J.number_of s))) → P (closes J.Failed) → P (takes_next c.awaited) → P (closes J.Short)
@@ -83,6 +92,20 @@ module _ (sort_of : List ℕ → Reading Sort) where
   pub ruling_event : (o : Option (List ℕ)) (ks : List Kind) (l : List ℕ) → (ruling sort_of o ks l).event ≡ J.Overlong → ⊥
   ruling_event o ks l =
       ruling_cases (λ r. r.event ≡ J.Overlong → ⊥) o ks l (table_event (awaiting ks) (sort_of l)) (λ e. never (cc)) (table_event idle (sort_of l))
+
+  -- what holds of every event that a line may be holds of what it is: of a stray's number, where it is refused, by its sort
+  pub judge_event : (P : J.Event → Type 0) (c : Command) (l : Line) → P J.Overlong → ((s : List ℕ) → P (J.Stray (J.number_of (sort_of s)))) → P J.Failed → P J.Taken → P J.Done → P J.Short
+      → P J.Unsolicited → P (J.Stray 0) → P J.Echo → P (judge sort_of c l).event.event
+  unfolding judge
+  judge_event P c overlong over strays fails taken done shorts unasked other echoed = over
+  judge_event P c (line l) over strays fails taken done shorts unasked other echoed = ruling_cases (λ r. P r.event) c.echo c.awaited l (by_table (awaiting c.awaited)) echoed (by_table idle)
+    where
+      last : (t : Bool) → P (cond t J.Taken J.Done)
+      last true = taken
+      last false = done
+
+      by_table : (d : Command) → P (table d (sort_of l)).event
+      by_table d = table_cases (λ r. P r.event) d (sort_of l) (strays l) fails (last (any_awaited (drop 1 d.awaited))) shorts unasked other
 
   -- the echo after a line is none, or the one before it
   pub echo_after : (P : Option (List ℕ) → Type 0) → P none → (c : Command) → P c.echo → (l : Line) → P (judge sort_of c l).command.echo

@@ -5,6 +5,7 @@ use mathlib.Core.Bool.{true, false}
 use mathlib.Core.Logic.{⊎_elim}
 use mathlib.Core.List.{List, [], ◌∷◌, ◌++◌}
 use mathlib.Core.Option.{Option, none, some}
+use Rattle.std.specs.Prelude as P
 use native.Mathlib.Omega.{arith}
 use lib.ListN.{length, take, drop, length-append, length-take}
 use lib.Seq.{length-take-le, take-append_seam}
@@ -20,8 +21,7 @@ use Rattle.desk.specs.Judge.{Echo, Seen, Command, awaiting, idle, Ruling, table,
 use Rattle.desk.specs.Desk.{Kept, echo_in, command_kept, sent_in, size_in, keep, judge_kept}
 use Rattle.desk.specs.Search.{Judges}
 use Rattle.desk.specs.Says.{command_says}
-use Rattle.desk.specs.declared.command.Command.{Command as CommandCode}
-use Rattle.desk.specs.declared.command.Command.TheVariants.{Idle, One, Two}
+use Rattle.at_command.specs.declared.request.Awaits.{Awaits}
 use Rattle.desk.proofs.Numbering.{number_capped}
 use Rattle.desk.proofs.Judging.{table_plain, ruled_echo, ruled_early, echo_after}
 
@@ -94,29 +94,32 @@ module _ (k : Kept) (size : ℕ) (is : size ≡ size_in (echo_in k.sent k.size))
       (λ h n e g. let same : size ≡ k.size = e ∙ n in rw same (g, n))
       is refl
 
-  -- an overlong line leaves the command
-  pub overlong_keeps : record { sent = k.sent; size = size; awaited = k.awaited; counted = capped (suc k.counted) } ≡ (judge_kept k overlong).command
-  unfolding judge_kept judge
-  overlong_keeps = ap (λ (n : ℕ). record { sent = k.sent; size = n; awaited = k.awaited; counted = capped (suc k.counted) }) is
+  -- and the count
+  module _ {counted : ℕ} (next : counted ≡ capped (suc k.counted)) where
+    -- an overlong line leaves the command
+    pub overlong_keeps : record { sent = k.sent; size = size; awaited = k.awaited; counted = counted } ≡ (judge_kept k overlong).command
+    unfolding judge_kept judge
+    overlong_keeps = rw (next, is)
 
-  module _ (l : List ℕ) where
-    pub line_plain : size ≡ 0 → {c : Command} {s : Reading Sort} {j : Ruling} → c ≡ awaiting k.awaited → s ≡ line_sort l → j ≡ table c s → Judges k l (record { sent = k.sent; size = 0; awaited = j.command.awaited; counted = capped (suc k.counted) }) j.event
-    unfolding judge_kept judge ruling
-    line_plain z c s e = rw (none_awaited z, table_plain k.awaited (line_sort l), e, c, s)
+    module _ (l : List ℕ) where
+      pub line_plain : size ≡ 0 → {c : Command} {s : Reading Sort} {j : Ruling} → c ≡ awaiting k.awaited → s ≡ line_sort l → j ≡ table c s
+          → Judges k l (record { sent = k.sent; size = size; awaited = j.command.awaited; counted = counted }) j.event
+      unfolding judge_kept judge ruling
+      line_plain z c s e = rw (next, none_awaited z, table_plain k.awaited (line_sort l), e, c, s, z)
 
-    module _ (more : size ≡ 0 → ⊥) (p : List ℕ) (front : p ≡ take size k.sent) where
-      pub line_echo : is_echo p l ≡ true → Judges k l (record { sent = k.sent; size = 0; awaited = k.awaited; counted = capped (suc k.counted) }) Echo
-      unfolding judge_kept judge
-      line_echo t = rw ((some_awaited more).0, ruled_echo line_sort (take size k.sent) k.awaited l (ap (λ (x : List ℕ). is_echo x l) (sym front) ∙ t))
+      module _ (more : size ≡ 0 → ⊥) where
+        pub line_echo : is_echo (take size k.sent) l ≡ true → Judges k l (record { sent = k.sent; size = 0; awaited = k.awaited; counted = counted }) Echo
+        unfolding judge_kept judge
+        line_echo t = rw (next, (some_awaited more).0, ruled_echo line_sort (take size k.sent) k.awaited l t)
 
-      pub line_early : is_echo p l ≡ false → {s : Reading Sort} {j : Ruling} → s ≡ line_sort l → j ≡ table idle s → Judges k l (record { sent = k.sent; size = size; awaited = k.awaited; counted = capped (suc k.counted) }) j.event
-      unfolding judge_kept judge
-      line_early t s e =
-          let a = some_awaited more in
-          rw (a.0, ruled_early line_sort (take size k.sent) k.awaited l (ap (λ (x : List ℕ). is_echo x l) (sym front) ∙ t), e, s, a.1)
+        pub line_early : is_echo (take size k.sent) l ≡ false → {s : Reading Sort} {j : Ruling} → s ≡ line_sort l → j ≡ table idle s
+            → Judges k l (record { sent = k.sent; size = size; awaited = k.awaited; counted = counted }) j.event
+        unfolding judge_kept judge
+        line_early t s e =
+            let a = some_awaited more in
+            rw (next, a.0, ruled_early line_sort (take size k.sent) k.awaited l t, e, s, a.1)
 
 -- the code's command is the answers that are awaited
-pub says_plain : (c : CommandCode) → command_says c ≡ awaiting (command_says c).awaited
-says_plain Idle = refl
-says_plain (One a) = refl
-says_plain (Two a b) = refl
+pub says_plain : (c : P.Option Awaits) → command_says c ≡ awaiting (command_says c).awaited
+says_plain P.None = refl
+says_plain (P.Some a) = refl

@@ -39,6 +39,6 @@ operators_opened plmn second out out' =
     record {
       value = λ mode d r kept. operator_opened _ _ out plmn kept;
       lent = λ mode d d' r kept. operator_opened _ _ out plmn kept;
-      parts = λ len command echo counted r kept. operator_opened _ _ out plmn (kept (replicate 257 0) [] refl);
-      echo_parts = λ len command sent echo counted r sent' kept. operator_opened _ _ out plmn (kept (replicate 257 0) refl);
+      parts = λ state r kept. operator_opened _ _ out plmn (kept (replicate 257 0) [] refl);
+      echo_parts = λ state sent r sent' kept. operator_opened _ _ out plmn (kept (replicate 257 0) refl);
     }

@@ -1,5 +1,7 @@
 -- Laws of ordinals: one after the other up to the greatest, and left out they leave the list.
-use Prim.Native.Nat.{ℕ, suc, ◌+◌, ◌≤◌, ◌<◌}
+use Prim.Native.Nat.{ℕ, suc, ◌+◌, ◌≤◌}
+use Rattle.std.specs.Prelude.{min, ◌-◌, ◌^◌}
+use Rattle.std.proofs.lemmas.Bool.Decides.{nat_tests}
 use mathlib.Core.Path.{◌≡◌, refl, sym, ap, ◌∙◌}
 use mathlib.Core.Logic.{⊎_elim}
 use mathlib.Core.List.{List, [], ◌∷◌}
@@ -33,12 +35,9 @@ capped_again n =
     (both (ltb n greatest))
 
 -- as the code has it
-module _ (n : ℕ) where
-  pub next_few : n < greatest → n + 1 ≡ capped (suc n)
-  next_few h = let one : n + 1 ≡ suc n = omega arith in one ∙ sym (capped_few (suc n) (omega arith))
-
-  pub next_many : greatest ≤ n → greatest ≡ capped (suc n)
-  next_many h = sym (capped_many (suc n) (omega arith))
+pub next_capped : (n : ℕ) → min (n + 1) (2 ^ 32 - 1) ≡ capped (suc n)
+unfolding capped least
+next_capped n = grind (arith, nat_tests)
 
 module _ {T : Type 0} where
   pub number_capped : (n : ℕ) (l : List T) → number (capped n) l ≡ number n l

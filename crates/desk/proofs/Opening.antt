@@ -4,6 +4,7 @@ use mathlib.Core.Path.{◌≡◌, refl, sym, ap, ◌∙◌}
 use mathlib.Core.Bool.{Bool, true, false}
 use mathlib.Core.Logic.{⊎_elim}
 use mathlib.Core.List.{List, [], ◌∷◌, ◌++◌}
+use Rattle.std.specs.Prelude.{Option, Some, None, is_some}
 use native.Mathlib.Nat.{zero-add}
 use native.Mathlib.Omega.{arith}
 use lib.ListN.{length, drop}
@@ -11,6 +12,8 @@ use lib.Seq.{take-append_seam}
 use Rattle.text.specs.Reading.{Reading, read, refused, mapped}
 use Rattle.at_command.specs.Request.{Asked, get_signal_quality, show_iccid, get_imei, get_operator_info, set_manual_operator, set_automatic_operator, get_system_info, synchronize_network_time, execute, download_to_file_system, get_sms_message_format, set_sms_message_format, read_sms, Numbers, command_of, encode_reading, answers_to, written}
 use Rattle.at_command.specs.Kind.{Kind}
+use Rattle.at_command.specs.declared.request.Awaits.{Awaits}
+use Rattle.at_command.specs.declared.request.Awaits.TheVariants.{One, Two}
 use Rattle.at_command.proofs.Commands.{command_size, encode_gives}
 use Rattle.text.specs.Part.{part_of}
 use Rattle.text.specs.Copy.{LayKeeps}
@@ -20,8 +23,15 @@ use Rattle.desk.specs.Cut.{View, dropping, held}
 use Rattle.desk.specs.Judge.{Command, awaiting, echoing, is_open}
 use Rattle.desk.specs.Desk.{command_kept, keep, State, view_of, is_clear, Opened, allowed, opened_with, opened}
 use Rattle.desk.specs.Demand.{accepts}
+use Rattle.desk.specs.Says.{command_says}
 use Rattle.text.proofs.Tests.{both, never}
 use Rattle.text.proofs.Yields.{Yields, yields_cond}
+
+-- the code asks whether there are answers that are awaited
+pub some_open : (c : Option Awaits) → is_open (command_says c) ≡ is_some c
+some_open None = refl
+some_open (Some (One a)) = refl
+some_open (Some (Two a b)) = refl
 
 -- ---- the refusals, and the answer
 
@@ -40,17 +50,19 @@ module _ (s : State) (c : Command) where
       unfolding opened
       open_on command out = rw (idle, clear)
 
-      pub open_refused : (command : Reading (List ℕ)) (out : List ℕ) {k : ℕ} {after : List ℕ} → refused k ≡ mapped length command → after ≡ written command out
-          → record { state = s; answer = refused k; out = after } ≡ opened s c command out
-      unfolding mapped
-      open_refused (read w) out e f = never (cc)
-      open_refused (refused k) out e f = rw (e, f) (open_on (refused k) out)
+      -- the code's answer is the writer's
+      module _ {answer : Reading ℕ} {after : List ℕ} where
+        pub open_refused : (command : Reading (List ℕ)) (out : List ℕ) {k : ℕ} → answer ≡ refused k → answer ≡ mapped length command → after ≡ written command out
+            → record { state = s; answer = answer; out = after } ≡ opened s c command out
+        unfolding mapped
+        open_refused (read w) out is e f = never (cc)
+        open_refused (refused k) out is e f = rw (e, f) (open_on (refused k) out)
 
-      pub open_written : (command : Reading (List ℕ)) (out : List ℕ) {n : ℕ} {after : List ℕ} → read n ≡ mapped length command → after ≡ written command out
-          → record { state = record { wire = s.wire; command = keep c s.command }; answer = read n; out = after } ≡ opened s c command out
-      unfolding mapped
-      open_written (read w) out e f = rw (e, f) (open_on (read w) out)
-      open_written (refused k) out e f = never (cc)
+        pub open_written : (command : Reading (List ℕ)) (out : List ℕ) {n : ℕ} → answer ≡ read n → answer ≡ mapped length command → after ≡ written command out
+            → record { state = record { wire = s.wire; command = keep c s.command }; answer = answer; out = after } ≡ opened s c command out
+        unfolding mapped
+        open_written (read w) out is e f = rw (e, f) (open_on (read w) out)
+        open_written (refused k) out is e f = never (cc)
 
 -- ---- an open that is refused, and one that is not: the command makes no difference but in what is kept
 
@@ -121,7 +133,7 @@ read_same e = cc
 module _ (s : State) (a : Asked) (ks : List Kind) (out : List ℕ) {o : Opened} {n : ℕ} (is : o ≡ opened s (awaiting ks) (encode_reading a (length out)) out) (size : o.answer ≡ read n)
     (numbers : Numbers a) (full : length s.command.sent ≡ 210) where
   pub echo_kept : {piece sent' : List ℕ} {e : ℕ} → piece ≡ part_of o.out 0 n → LayKeeps piece 0 s.command.sent e sent'
-      → record { state = record { wire = s.wire; command = record { sent = sent'; size = n; awaited = o.state.command.awaited; counted = o.state.command.counted } }; answer = read n; out = o.out }
+      → record { state = record { wire = o.state.wire; command = record { sent = sent'; size = n; awaited = o.state.command.awaited; counted = o.state.command.counted } }; answer = o.answer; out = o.out }
       ≡ opened s (echoing (command_of a) ks) (encode_reading a (length out)) out
   echo_kept {piece} {sent'} front laid =
       let w = open_accepted s out (awaiting ks) (encode_reading a (length out)) (ap (λ (x : Opened). accepts x.answer) (sym is) ∙ ap accepts size) in

@@ -4,18 +4,22 @@ use mathlib.Core.Path.{◌≡◌, refl, sym, ◌∙◌}
 use mathlib.Core.Bool.{Bool, true, false, ◌||◌}
 use mathlib.Core.Logic.{⊎_elim}
 use mathlib.Core.List.{List, [], ◌∷◌, ◌++◌}
-use mathlib.Core.Option.{none}
+use mathlib.Core.Option.{Option, none, some}
+use Rattle.std.specs.Prelude as P
 use native.Mathlib.Omega.{arith}
 use native.Mathlib.Numerals.{add-one}
 use lib.ListN.{length, take, drop, get_or, set, length-set, drop_of_length-le}
 use lib.Seq.{drop-cons, get_or-set_same}
 use lib.Dec.{ltb, eqb}
 use borrow.Author.Tests.{ltb-true, ltb-false, eqb-true, eqb-false}
-use Rattle.desk.specs.Cut.{Piece, nothing, blank, overlong, line, is_prompt}
-use Rattle.desk.specs.Machine.{Stop, onward, feed}
-use Rattle.desk.specs.Lines.{Line, line_of}
-use Rattle.desk.specs.Desk.{Tray, lay_one, buffered}
-use Rattle.desk.specs.Search.{tray_of, Pushed, push_one, stops, found_after, Filled, Clear, Plain, Room, Laid}
+use Rattle.desk.specs.Cut.{is_prompt}
+use Rattle.desk.specs.Machine.{Step, Stop, onward, feed}
+use Rattle.desk.specs.Lines.{Line}
+use Rattle.desk.specs.Desk.{Tray, buffered}
+use Rattle.desk.specs.Says.{found_line}
+use Rattle.desk.specs.declared.cutter.Piece.{Piece as PieceCode}
+use Rattle.desk.specs.declared.cutter.Piece.TheVariants as C
+use Rattle.desk.specs.Search.{tray_of, found_after, Filled, Clear, Plain, Room, Laid}
 use Rattle.text.proofs.Tests.{both, neither, never}
 use Rattle.desk.proofs.Cutting.{past_below, prompt_first, prompt_far, push_more}
 
@@ -25,28 +29,35 @@ found_none : (n : ℕ) (t : Tray) → found_after n t [] ≡ record { taken = n;
 unfolding feed
 found_none n t = let e : n + 0 ≡ n = omega arith in rw e
 
-onward_stop : (p : Piece) (t : Tray) (f : Stop Tray Line) → stops p ≡ true → onward (line_of p) t f ≡ record { taken = 1; tell = line_of p; state = t }
-onward_stop nothing t f e = never (cc)
-onward_stop blank t f e = never (cc)
-onward_stop overlong t f e = refl
-onward_stop (line l) t f e = refl
+-- whether a search stops there
+abbrev pub stops : Option Line → Bool
+stops none = false
+stops (some l) = true
 
-onward_on : (p : Piece) (t : Tray) (f : Stop Tray Line) → stops p ≡ false → onward (line_of p) t f ≡ record { taken = suc f.taken; tell = f.tell; state = f.state }
-onward_on nothing t f e = refl
-onward_on blank t f e = refl
-onward_on overlong t f e = never (cc)
-onward_on (line l) t f e = never (cc)
+pub found_stops : (p : P.Option PieceCode) (s : List ℕ) → stops (found_line p s) ≡ P.is_some p
+found_stops P.None s = refl
+found_stops (P.Some C.Overlong) s = refl
+found_stops (P.Some (C.Line n)) s = refl
+
+onward_stop : (o : Option Line) (t : Tray) (f : Stop Tray Line) → stops o ≡ true → onward o t f ≡ record { taken = 1; tell = o; state = t }
+onward_stop none t f e = never (cc)
+onward_stop (some l) t f e = refl
+
+onward_on : (o : Option Line) (t : Tray) (f : Stop Tray Line) → stops o ≡ false → onward o t f ≡ record { taken = suc f.taken; tell = f.tell; state = f.state }
+onward_on none t f e = refl
+onward_on (some l) t f e = never (cc)
 
 module _ (n : ℕ) (t : Tray) (b : ℕ) (bs : List ℕ) where
-  found_stop : stops (push_one t b).piece ≡ true → found_after n t (b ∷ bs) ≡ record { taken = n + 1; tell = line_of (push_one t b).piece; state = lay_one t b }
-  unfolding feed buffered
-  found_stop e = rw (onward_stop (push_one t b).piece (lay_one t b) (feed buffered (lay_one t b) bs) e)
+  found_stop : stops (buffered t b).tell ≡ true → found_after n t (b ∷ bs) ≡ record { taken = n + 1; tell = (buffered t b).tell; state = (buffered t b).state }
+  unfolding feed
+  found_stop e = rw (onward_stop (buffered t b).tell (buffered t b).state (feed buffered (buffered t b).state bs) e)
 
-  found_on : stops (push_one t b).piece ≡ false → found_after n t (b ∷ bs) ≡ found_after (n + 1) (lay_one t b) bs
-  unfolding feed buffered
+  found_on : stops (buffered t b).tell ≡ false → found_after n t (b ∷ bs) ≡ found_after (n + 1) (buffered t b).state bs
+  unfolding feed
   found_on e =
-      let k : n + suc (feed buffered (lay_one t b) bs).taken ≡ n + 1 + (feed buffered (lay_one t b) bs).taken = omega arith in
-      rw (onward_on (push_one t b).piece (lay_one t b) (feed buffered (lay_one t b) bs) e, k)
+      let next = (buffered t b).state in
+      let k : n + suc (feed buffered next bs).taken ≡ n + 1 + (feed buffered next bs).taken = omega arith in
+      rw (onward_on (buffered t b).tell next (feed buffered next bs) e, k)
 
 -- ---- a turn of the search, at the byte i of the chunk
 
@@ -54,11 +65,11 @@ module _ (chunk : List ℕ) (i : ℕ) (t : Tray) where
   pub search_end : length chunk ≤ i → found_after i t (drop i chunk) ≡ record { taken = i; tell = none; state = t }
   search_end h = rw (drop_of_length-le chunk h) (found_none i t)
 
-  module _ {p : Pushed} (more : i < length chunk) (e : p ≡ push_one t (get_or chunk i 0)) where
-    pub search_stop : stops p.piece ≡ true → found_after i t (drop i chunk) ≡ record { taken = i + 1; tell = line_of p.piece; state = p.tray }
+  module _ {p : Step Tray Line} (more : i < length chunk) (e : p ≡ buffered t (get_or chunk i 0)) where
+    pub search_stop : stops p.tell ≡ true → found_after i t (drop i chunk) ≡ record { taken = i + 1; tell = p.tell; state = p.state }
     search_stop g = rw (drop-cons chunk i 0 more, e) (found_stop i t (get_or chunk i 0) (drop (suc i) chunk) (rw e at g))
 
-    pub search_on : stops p.piece ≡ false → found_after i t (drop i chunk) ≡ found_after (i + 1) p.tray (drop (i + 1) chunk)
+    pub search_on : stops p.tell ≡ false → found_after i t (drop i chunk) ≡ found_after (i + 1) p.state (drop (i + 1) chunk)
     search_on g = rw (drop-cons chunk i 0 more, e, add-one i) (rw (add-one i) at (found_on i t (get_or chunk i 0) (drop (suc i) chunk) (rw e at g)))
 
 -- ---- bytes laid at once
@@ -124,7 +135,7 @@ plain_next s len b x full p =
     }
 
 keep_byte : (s : List ℕ) (len b : ℕ) → length s ≡ 257 → len < 256 → Plain s len b → (b ≡ 10 → ⊥)
-    → ◌≡◌ {A = Pushed} (record { tray = tray_of (set s len b) (len + 1); piece = nothing }) (push_one (tray_of s len) b)
+    → ◌≡◌ {A = Step Tray Line} (record { state = tray_of (set s len b) (len + 1); tell = none }) (buffered (tray_of s len) b)
 keep_byte s len b full room p e = push_more s full len b e (past_below len b room) refl (plain_push s len b full room p) refl
 
 pub fill_room : {s : List ℕ} {len : ℕ} {chunk : List ℕ} {at m : ℕ} → length s ≡ 257 → len ≤ 255 → at < length chunk → (m ≤ length chunk - at) × (m ≤ 256 - len)

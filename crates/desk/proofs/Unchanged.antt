@@ -5,6 +5,7 @@ use mathlib.Core.Bool.{true, false}
 use mathlib.Core.Logic.{⊎_elim}
 use mathlib.Core.List.{List, [], ◌∷◌, ◌++◌}
 use mathlib.Core.Option.{Option, none, some, map}
+use Rattle.std.specs.Prelude.{Result}
 use lib.ListN.{length, replicate}
 use lib.Dec.{ltb}
 use borrow.Author.Tests.{ltb-true}
@@ -12,7 +13,7 @@ use Rattle.text.specs.Bytes.{bytes, same, starts_with, ends_with}
 use Rattle.text.specs.Reading.{Reading, read, refused}
 use Rattle.at_command.specs.says.Request.{encoded_says}
 use Rattle.at_command.specs.declared.request.Request.{Request}
-use Rattle.at_command.specs.declared.request.Encoded.{Encoded}
+use Rattle.text.specs.declared.refusal.Refusal.{Refusal}
 use Rattle.desk.specs.Cut.{held, bare, cut_one}
 use Rattle.trial.specs.Sort.{line_sort}
 use Rattle.desk.specs.Machine.{tells, feed, command_of, event_of}
@@ -24,15 +25,15 @@ use Rattle.desk.specs.Rules.{fresh, Mode}
 use Rattle.desk.specs.Desk.{Kept, command_kept, judge_kept, State, buffered, viewed, desk, new_state, reset_state, Heard, quiet, event, heard_of, text_of, Fed, fed}
 use Rattle.desk.specs.Says.{answer_says, state_in, state_of, fed_says, parts_says}
 use Rattle.desk.specs.Keeps.{FeedKeeps, FeedLentKeeps, FeedOnKeeps, OpenKeeps, OpenLentKeeps, OpenOnKeeps, OpenEchoOnKeeps}
+use Rattle.desk.specs.declared.State.{State as StateCode}
 use Rattle.desk.specs.declared.Desk.{Desk}
-use Rattle.desk.specs.declared.command.Command.{Command as CommandCode}
 use Rattle.desk.specs.declared.feed.Fed.{Fed as FedCode}
-use Rattle.desk.specs.declared.feed.FedAnswer.{FedAnswer}
+use Rattle.desk.specs.declared.feed.Feed.{Feed}
 use Rattle.desk.specs.declared.feed.FedParts.{FedParts}
 use Rattle.desk.specs.declared.open.Opened.{Opened as OpenedCode}
 use Rattle.desk.specs.declared.open.OpenedParts.{OpenedParts}
 use Rattle.text.proofs.Tests.{both, never}
-use Rattle.desk.proofs.One.{same_desk, same_command}
+use Rattle.desk.proofs.One.{same_desk, same_state}
 use Rattle.desk.proofs.Machine.{judged_feed}
 use Rattle.desk.proofs.Judging.{ruling_event}
 use Rattle.desk.proofs.Feeding.{fed_cases, fed_command}
@@ -57,56 +58,39 @@ pub feed_refused : (d : Desk) (chunk text : List ℕ) (r : FedCode) (text' : Lis
     → (r.desk ≡ d) × (text' ≡ text)
 feed_refused d chunk text r text' kept e = let s = fed_same (state_of d) chunk text (fed_says r text') kept e in (same_desk r.desk d s.0, s.1)
 
-pub feed_lent_refused : (d : Desk) (chunk text : List ℕ) (d' : Desk) (r : FedAnswer) (text' : List ℕ) {k : ℕ} → FeedLentKeeps d chunk text d' r text' → answer_says r ≡ refused k
+pub feed_lent_refused : (d : Desk) (chunk text : List ℕ) (d' : Desk) (r : Result Feed Refusal) (text' : List ℕ) {k : ℕ} → FeedLentKeeps d chunk text d' r text' → answer_says r ≡ refused k
     → (d' ≡ d) × (text' ≡ text)
 feed_lent_refused d chunk text d' r text' kept e = feed_refused d chunk text (record { desk = d'; answer = r }) text' kept e
 
-pub feed_on_refused : (line : List ℕ) (len : ℕ) (command : CommandCode) (sent : List ℕ) (echo counted : ℕ) (chunk text : List ℕ) (r : FedParts) (line' text' : List ℕ) {k : ℕ}
-    → FeedOnKeeps line len command sent echo counted chunk text r line' text' → answer_says r.answer ≡ refused k
-    → (line' ≡ line) × (r.len ≡ len) × (r.command ≡ command) × (r.echo ≡ echo) × (r.counted ≡ counted) × (text' ≡ text)
-feed_on_refused line len command sent echo counted chunk text r line' text' kept e =
-    let s = fed_same (state_in line len command sent echo counted) chunk text (parts_says r line' sent text') kept e in (
-      ap (λ (x : State). x.wire.bytes) s.0,
-      ap (λ (x : State). x.wire.len) s.0,
-      same_command r.command command (ap (λ (x : State). x.command.awaited) s.0),
-      ap (λ (x : State). x.command.size) s.0,
-      ap (λ (x : State). x.command.counted) s.0,
-      s.1,
-    )
+pub feed_on_refused : (line : List ℕ) (state : StateCode) (sent chunk text : List ℕ) (r : FedParts) (line' text' : List ℕ) {k : ℕ}
+    → FeedOnKeeps line state sent chunk text r line' text' → answer_says r.answer ≡ refused k
+    → (line' ≡ line) × (r.state ≡ state) × (text' ≡ text)
+feed_on_refused line state sent chunk text r line' text' kept e =
+    let s = fed_same (state_in line state sent) chunk text (parts_says r line' sent text') kept e in
+    (ap (λ (x : State). x.wire.bytes) s.0, same_state r.state state s.0, s.1)
 
 -- in both modes
 pub open_refused : (mode : Mode) (d : Desk) (request : Request) (first second out : List ℕ) (r : OpenedCode) (out' : List ℕ) {k : ℕ} → OpenKeeps mode d request first second out r out'
     → encoded_says r.answer ≡ refused k → (r.desk ≡ d) × (out' ≡ out)
 open_refused mode d request first second out r out' kept e = let s = opened_same (state_of d) out _ _ kept e in (same_desk r.desk d s.0, s.1)
 
-pub open_lent_refused : (mode : Mode) (d : Desk) (request : Request) (first second out : List ℕ) (d' : Desk) (r : Encoded) (out' : List ℕ) {k : ℕ}
+pub open_lent_refused : (mode : Mode) (d : Desk) (request : Request) (first second out : List ℕ) (d' : Desk) (r : Result ℕ Refusal) (out' : List ℕ) {k : ℕ}
     → OpenLentKeeps mode d request first second out d' r out' → encoded_says r ≡ refused k → (d' ≡ d) × (out' ≡ out)
 open_lent_refused mode d request first second out d' r out' kept e = open_refused mode d request first second out (record { desk = d'; answer = r }) out' kept e
 
-pub open_on_refused : (len : ℕ) (command : CommandCode) (echo counted : ℕ) (request : Request) (first second out : List ℕ) (r : OpenedParts) (out' : List ℕ) {k : ℕ}
-    → OpenOnKeeps len command echo counted request first second out r out' → encoded_says r.answer ≡ refused k
-    → (r.command ≡ command) × (r.echo ≡ echo) × (r.counted ≡ counted) × (out' ≡ out)
-open_on_refused len command echo counted request first second out r out' kept e =
+pub open_on_refused : (state : StateCode) (request : Request) (first second out : List ℕ) (r : OpenedParts) (out' : List ℕ) {k : ℕ}
+    → OpenOnKeeps state request first second out r out' → encoded_says r.answer ≡ refused k → (r.state ≡ state) × (out' ≡ out)
+open_on_refused state request first second out r out' kept e =
     let line : List ℕ = replicate 257 0 in
-    let s = opened_same (state_in line len command [] echo counted) out _ _ (kept line [] refl) e in (
-      same_command r.command command (ap (λ (x : State). x.command.awaited) s.0),
-      ap (λ (x : State). x.command.size) s.0,
-      ap (λ (x : State). x.command.counted) s.0,
-      s.1,
-    )
+    let s = opened_same (state_in line state []) out _ _ (kept line [] refl) e in
+    (same_state r.state state s.0, s.1)
 
-pub open_echo_on_refused : (len : ℕ) (command : CommandCode) (sent : List ℕ) (echo counted : ℕ) (request : Request) (first second out : List ℕ) (r : OpenedParts) (sent' out' : List ℕ) {k : ℕ}
-    → OpenEchoOnKeeps len command sent echo counted request first second out r sent' out' → encoded_says r.answer ≡ refused k
-    → (r.command ≡ command) × (sent' ≡ sent) × (r.echo ≡ echo) × (r.counted ≡ counted) × (out' ≡ out)
-open_echo_on_refused len command sent echo counted request first second out r sent' out' kept e =
+pub open_echo_on_refused : (state : StateCode) (sent : List ℕ) (request : Request) (first second out : List ℕ) (r : OpenedParts) (sent' out' : List ℕ) {k : ℕ}
+    → OpenEchoOnKeeps state sent request first second out r sent' out' → encoded_says r.answer ≡ refused k → (r.state ≡ state) × (sent' ≡ sent) × (out' ≡ out)
+open_echo_on_refused state sent request first second out r sent' out' kept e =
     let line : List ℕ = replicate 257 0 in
-    let s = opened_same (state_in line len command sent echo counted) out _ _ (kept line refl) e in (
-      same_command r.command command (ap (λ (x : State). x.command.awaited) s.0),
-      ap (λ (x : State). x.command.sent) s.0,
-      ap (λ (x : State). x.command.size) s.0,
-      ap (λ (x : State). x.command.counted) s.0,
-      s.1,
-    )
+    let s = opened_same (state_in line state sent) out _ _ (kept line refl) e in
+    (same_state r.state state s.0, ap (λ (x : State). x.command.sent) s.0, s.1)
 
 -- ---- a new desk, and one that was reset, is idle, awaits no echo and holds nothing: the next byte starts a line, and no line is counted
 

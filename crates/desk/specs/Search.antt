@@ -1,32 +1,18 @@
 -- What the private functions of a feed say: a search from a tray, bytes laid in it, bytes with no LF among them, and what is made of a line.
-use Rattle.std.specs.Prelude.{ℕ, ◌+◌, ◌-◌, ◌≤◌, ◌<◌, ◌≡◌, Bool, true, false, List, [], ◌∷◌, ◌++◌, length, drop, get_or}
+use Rattle.std.specs.Prelude.{ℕ, ◌+◌, ◌-◌, ◌≤◌, ◌<◌, ◌≡◌, Bool, false, List, [], ◌∷◌, ◌++◌, length, drop, get_or}
 use Rattle.std.proofs.Math.Option.{Option, map}
 use Rattle.text.specs.Reading.{Reading, read}
-use Rattle.desk.specs.Cut.{Piece, nothing, blank, overlong, line, bare, long as too_long, cut_one}
+use Rattle.at_command.specs.Kind.{Kind}
+use Rattle.desk.specs.Cut.{bare, long as too_long}
 use Rattle.desk.specs.Machine.{Stop, feed, command_of, event_of}
 use Rattle.desk.specs.Ordinal.{numbered}
 use Rattle.desk.specs.Lines.{Line}
 use Rattle.desk.specs.Lines as L
-use Rattle.desk.specs.Judge.{Event}
-use Rattle.desk.specs.Desk.{Tray, view_of, lay_one, buffered, Kept, judge_kept, Heard, heard_of, text_of}
+use Rattle.desk.specs.Judge.{Event, Ruling, takes_next}
+use Rattle.desk.specs.Desk.{Tray, buffered, Kept, judge_kept, Heard, heard_of, text_of}
 
 abbrev pub tray_of : List ℕ → ℕ → Tray
 tray_of bytes len = record { bytes = bytes; len = len }
-
--- one byte
-pub record Pushed : Type 0 where
-  pub tray : Tray
-  pub piece : Piece
-
-abbrev pub push_one : Tray → ℕ → Pushed
-push_one t b = record { tray = lay_one t b; piece = (cut_one (view_of t) b).piece }
-
--- where a feed stops
-abbrev pub stops : Piece → Bool
-stops nothing = false
-stops blank = false
-stops overlong = true
-stops (line l) = true
 
 -- a search through a chunk, n bytes having been taken before it
 abbrev pub found_after : ℕ → Tray → List ℕ → Stop Tray Line
@@ -65,6 +51,11 @@ pub record Laid (bytes : List ℕ) (len : ℕ) (chunk : List ℕ) (at most n : �
 pub record Past (len b : ℕ) (r : Bool) : Type 0 where
   pub few : r ≡ false → len ≤ 256
   pub is : (h : List ℕ) → length h ≡ len → r ≡ too_long (bare (h ++ b ∷ []))
+
+-- of the answers that are awaited next is the first, and taken is what it is once it comes
+pub record Next (awaited : List Kind) (next : Kind) (taken : Ruling) : Type 0 where
+  pub first : awaited ≡ next ∷ drop 1 awaited
+  pub takes : taken ≡ takes_next awaited
 
 -- what a line is, and the command that is kept after it
 abbrev pub Judges : Kept → List ℕ → Kept → Event → Type 0

@@ -1,122 +1,94 @@
 // Cutting a modem's bytes into lines, with no array copied.
-ghost use Rattle.std.specs.Prelude.{◌≡◌, false, List, [], ◌∷◌, ◌++◌, ℕ, ◌+◌, ◌≤◌, length, take};
-ghost use Rattle.desk.specs.Cut.{is_prompt, cut_one};
-ghost use Rattle.desk.specs.Desk.{view_of};
-ghost use Rattle.desk.specs.Search.{tray_of, stops, push_one, found_after, Filled, Clear, Plain, Room, Laid, Past};
-ghost use Rattle.desk.specs.Says.{piece_says, pushed_says, found_says};
+ghost use Rattle.std.specs.Prelude.{◌≡◌, false, [], ◌∷◌, ◌++◌, ◌+◌, ◌≤◌, length, take};
+ghost use Rattle.desk.specs.Cut.{bare, is_prompt, cut_one};
+ghost use Rattle.desk.specs.Lines.{line_of};
+ghost use Rattle.desk.specs.Desk.{view_of, buffered};
+ghost use Rattle.desk.specs.Search.{tray_of, found_after, Filled, Clear, Plain, Room, Laid, Past};
+ghost use Rattle.desk.specs.Says.{found_line, pushed_says, found_says};
 
-use text::copy;
+use text::bytes;
 
-// The bytes of the line that is coming: line[..len] where len is at most 257. Above 257 the line is being dropped.
-#[derive(Clone, Copy)]
-pub struct Cutter {
-    pub line: [u8; 257],
-    pub len: usize,
-}
-
-// What a byte completes: nothing, an empty line, a line past its length, or the first bytes of the buffer, so many.
+// What ends a feed: a line past its length, or the first bytes of the buffer, so many.
 #[derive(Clone, Copy)]
 pub enum Piece {
-    Nothing,
-    Blank,
     Overlong,
     Line(usize),
 }
 
-// How many bytes are held after a byte, and what it completes.
+// How many bytes are held after a byte, and what it completes, if anything: an empty line is none.
 #[derive(Clone, Copy)]
 pub struct Pushed {
     pub len: usize,
-    pub piece: Piece,
+    pub piece: Option<Piece>,
 }
 
-// How a search ends: the bytes taken, how many are held after them, and the piece that the search stopped at.
+// How a search ends: the bytes taken, how many are held after them, and what the search stopped at, if anything.
 #[derive(Clone, Copy)]
 pub struct Found {
     pub taken: usize,
     pub len: usize,
-    pub piece: Piece,
+    pub piece: Option<Piece>,
 }
 
-// Whether a feed stops at the piece.
-fn is_stop(piece: Piece) -> bool
-    ensures { (bytes : List ℕ) → result ≡ stops (piece_says piece bytes) }
+// A line without the one CR at its end.
+#[tactic(auto, using(crate::proofs::Echoing::bares))]
+pub(crate) fn without_cr(line: &[u8]) -> &[u8]
+    ensures { result.now ≡ bare line.now }
 {
-    match piece {
-        Piece::Nothing => false,
-        Piece::Blank => false,
-        Piece::Overlong => true,
-        Piece::Line(_) => true,
+    if bytes::ends_with(line, b"\r") {
+        &line[..line.len() - 1]
+    } else {
+        line
     }
 }
 
 // What an LF makes of the len bytes before it.
-fn end_of(line: &[u8; 257], len: usize) -> Piece
-    requires { length line.now ≡ 257 }
-    ensures { piece_says result line.now ≡ (cut_one (view_of (tray_of line.now len)) 10).piece }
+#[tactic(auto, using(crate::proofs::Cutting::ends))]
+fn end_of(line: &[u8; 257], len: usize) -> Option<Piece>
+    ensures { found_line result line.now ≡ line_of (cut_one (view_of (tray_of line.now len)) 10).piece }
 {
     if len > 257 {
-        return Piece::Overlong;
+        return Some(Piece::Overlong);
     }
-    if len == 0 {
-        return Piece::Blank;
+    match without_cr(&line[..len]).len() {
+        0 => None,
+        size @ 1..=256 => Some(Piece::Line(size)),
+        _ => Some(Piece::Overlong),
     }
-    let last = len - 1;
-    if line[last] == 13 {
-        if last == 0 {
-            return Piece::Blank;
-        }
-        return Piece::Line(last);
-    }
-    if len == 257 {
-        return Piece::Overlong;
-    }
-    Piece::Line(len)
 }
 
 // Whether b makes "> " of the one byte that is held.
+#[tactic(auto, using(crate::proofs::Cutting::prompts))]
 fn is_prompt(line: &[u8; 257], len: usize, b: u8) -> bool
-    requires { (len ≤ 257) × (length line.now ≡ 257) }
+    requires { len ≤ 257 }
     ensures { result ≡ is_prompt (take len line.now ++ b ∷ []) }
 {
-    if len == 1 {
-        if b == 32 {
-            return line[0] == 62;
-        }
-        return false;
-    }
-    false
+    len == 1 && line[0] == b'>' && b == b' '
 }
 
 // Whether a line of len bytes is past its length with b: only a CR may stand behind 256.
+#[tactic(auto, using(crate::proofs::Cutting::pasts))]
 fn is_past(len: usize, b: u8) -> bool
     ensures { Past len b result }
 {
-    if len < 256 {
-        return false;
-    }
-    if len == 256 {
-        return b != 13;
-    }
-    true
+    len > 256 || len == 256 && b != b'\r'
 }
 
 // One byte.
+#[tactic(auto, using(crate::proofs::Cutting::pushes))]
 fn push(line: &mut [u8; 257], len: usize, b: u8) -> Pushed
-    requires { length line.old ≡ 257 }
-    ensures { (pushed_says result line.new ≡ push_one (tray_of line.old len) b) × (length line.new ≡ 257) }
+    ensures { pushed_says result line.new ≡ buffered (tray_of line.old len) b }
 {
-    if b == 10 {
-        let piece = end_of(line, len);
+    if b == b'\n' {
         return Pushed {
             len: 0,
-            piece: piece,
+            piece: end_of(line, len),
         };
     }
     if is_past(len, b) {
         return Pushed {
             len: 258,
-            piece: Piece::Nothing,
+            piece: None,
         };
     }
     let prompt = is_prompt(line, len, b);
@@ -124,12 +96,12 @@ fn push(line: &mut [u8; 257], len: usize, b: u8) -> Pushed
     if prompt {
         return Pushed {
             len: 0,
-            piece: Piece::Line(2),
+            piece: Some(Piece::Line(2)),
         };
     }
     Pushed {
         len: len + 1,
-        piece: Piece::Nothing,
+        piece: None,
     }
 }
 
@@ -222,71 +194,48 @@ fn run(line: &mut [u8; 257], len: usize, chunk: &[u8], at: usize, most: usize) -
 
 // Whether b may be part of a prompt: it or the one byte that is held is '>'.
 fn may_prompt(line: &[u8; 257], len: usize, b: u8) -> bool
-    requires { length line.now ≡ 257 }
     ensures { result ≡ false → Plain line.now len b }
 {
-    if len == 0 {
-        return b == 62;
+    match len {
+        0 => b == b'>',
+        1 => line[0] == b'>',
+        _ => false,
     }
-    if len == 1 {
-        return line[0] == 62;
-    }
-    false
 }
 
 // Lays the bytes of chunk from at on behind the len that are held, up to an LF, the 256th byte or the chunk's end, and says how many.
 // None where a prompt may come of them: its bytes go one by one.
 fn fill(line: &mut [u8; 257], len: usize, chunk: &[u8], at: usize) -> usize
-    requires { length line.old ≡ 257 }
     ensures { Filled line.old len chunk.now at result line.new }
 {
-    if len > 255 {
+    if len > 255 || at >= chunk.len() || may_prompt(line, len, chunk[at]) {
         return 0;
     }
-    if at >= chunk.len() {
-        return 0;
-    }
-    if may_prompt(line, len, chunk[at]) {
-        return 0;
-    }
-    let most = copy::least(chunk.len() - at, 256 - len);
+    let most = (chunk.len() - at).min(256 - len);
     run(line, len, chunk, at, most)
-}
-
-// The count of a slice. Of an array behind a reference no contract knows the length; lent as a slice it is known.
-fn count_of(s: &[u8]) -> usize
-    ensures { result ≡ length s.now }
-{
-    s.len()
 }
 
 // The search stops at the first byte that stops a feed; the count taken runs through that byte, or is the whole chunk.
 pub(crate) fn search(line: &mut [u8; 257], start: usize, chunk: &[u8]) -> Found
-    ensures { (found_says result line.new ≡ found_after 0 (tray_of line.old start) chunk.now) × (length line.new ≡ 257) }
+    ensures { found_says result line.new ≡ found_after 0 (tray_of line.old start) chunk.now }
 {
-    let _count = count_of(line);
     let mut len = start;
     let mut i = 0;
-    let mut piece = Piece::Nothing;
+    let mut piece = None;
     let taken = loop {
         let n = fill(line, len, chunk, i);
-        len = len + n;
-        i = i + n;
+        len += n;
+        i += n;
         if i >= chunk.len() {
-            piece = Piece::Nothing;
             break i;
         }
-        let p = push(line, len, chunk[i]);
+        let pushed = push(line, len, chunk[i]);
         i += 1;
-        len = p.len;
-        piece = p.piece;
-        if is_stop(piece) {
+        len = pushed.len;
+        piece = pushed.piece;
+        if piece.is_some() {
             break i;
         }
     };
-    Found {
-        taken: taken,
-        len: len,
-        piece: piece,
-    }
+    Found { taken, len, piece }
 }

@@ -1,88 +1,90 @@
 // The desk's table: what a line is to the command that is open.
-ghost use Rattle.std.specs.Prelude.{◌≡◌, cond};
-ghost use Rattle.at_command.specs.Kind.{sim_error, generic_ok};
-ghost use Rattle.at_command.specs.says.Request.{kind_says};
+ghost use Rattle.std.specs.Prelude.{◌≡◌};
+ghost use Rattle.text.specs.Reading.{read};
+ghost use Rattle.at_command.specs.says.Request.{kind_says, awaits_says};
+ghost use Rattle.trial.specs.Sort.{response};
 ghost use Rattle.trial.specs.says.Line.{sort_says};
-ghost use Rattle.desk.specs.Judge.{Failed, Short, same_kind, closes, table};
+ghost use Rattle.desk.specs.Judge.{table};
 ghost use Rattle.desk.specs.Says.{command_says, ruling_says};
+ghost use Rattle.desk.specs.Search.{Next};
 
 use crate::Event;
-use crate::command::Command;
-use at_command::request::ResponseKind;
+use at_command::request::{Awaits, ResponseKind};
+use text::refusal::Refusal;
 use trial::Sort;
 
 // An event, and the command after it.
 #[derive(Clone, Copy)]
 pub struct Judged {
-    pub command: Command,
+    pub command: Option<Awaits>,
     pub event: Event,
 }
 
-fn same(a: ResponseKind, b: ResponseKind) -> bool
-    ensures { result ≡ same_kind (kind_says a) (kind_says b) }
+// The answer that is awaited next, and what it is once it comes.
+fn next_of(awaits: Awaits) -> (ResponseKind, Judged)
+    ensures { Next (awaits_says awaits) (kind_says result.0) (ruling_says result.1) }
 {
-    let i = a.place();
-    let j = b.place();
-    i == j
+    match awaits {
+        Awaits::One(next) => (
+            next,
+            Judged {
+                command: None,
+                event: Event::Done,
+            },
+        ),
+        Awaits::Two(next, last) => (
+            next,
+            Judged {
+                command: Some(Awaits::One(last)),
+                event: Event::Taken,
+            },
+        ),
+    }
 }
 
-// A response while `next` is awaited: `taken` where it is that answer, and `other` where it is none of the command's.
-fn respond(kind: ResponseKind, next: ResponseKind, taken: Judged, other: Judged) -> Judged
-    ensures { ruling_says result ≡ cond (same_kind (kind_says kind) sim_error) (closes Failed) (cond (same_kind (kind_says kind) (kind_says next)) (ruling_says taken) (cond (same_kind (kind_says kind) generic_ok) (closes Short) (ruling_says other))) }
+// A response, to the command that is open or to none.
+fn respond(command: Option<Awaits>, kind: ResponseKind) -> Judged
+    ensures { ruling_says result ≡ table (command_says command) (read (response (kind_says kind))) }
 {
-    if same(kind, ResponseKind::SimError) {
+    let stays = Judged {
+        command,
+        event: Event::Stray(None),
+    };
+    let Some(awaits) = command else {
+        return stays;
+    };
+    let (next, taken) = next_of(awaits);
+    if kind == ResponseKind::SimError {
         return Judged {
-            command: Command::Idle,
+            command: None,
             event: Event::Failed,
         };
     }
-    if same(kind, next) {
+    if kind == next {
         return taken;
     }
-    if same(kind, ResponseKind::GenericOk) {
+    if kind == ResponseKind::GenericOk {
         return Judged {
-            command: Command::Idle,
+            command: None,
             event: Event::Short,
         };
     }
-    other
+    stays
 }
 
 // The first row that fits decides.
-pub(crate) fn judge(command: Command, sort: Sort) -> Judged
+pub(crate) fn judge(command: Option<Awaits>, sort: Result<Sort, Refusal>) -> Judged
     ensures { ruling_says result ≡ table (command_says command) (sort_says sort) }
 {
     match sort {
-        Sort::Refused(n) => Judged {
-            command: command,
-            event: Event::Stray(n),
+        Err(refusal) => Judged {
+            command,
+            event: Event::Stray(Some(refusal)),
         },
-        Sort::Unsolicited => Judged {
-            command: command,
+        Ok(Sort::Unsolicited) => Judged {
+            command,
             event: Event::Unsolicited,
         },
-        Sort::Response(k) => {
-            let other = Judged {
-                command: command,
-                event: Event::Stray(0),
-            };
-            match command {
-                Command::Idle => other,
-                Command::One(next) => {
-                    let done = Judged {
-                        command: Command::Idle,
-                        event: Event::Done,
-                    };
-                    respond(k, next, done, other)
-                }
-                Command::Two(next, last) => {
-                    let taken = Judged {
-                        command: Command::One(last),
-                        event: Event::Taken,
-                    };
-                    respond(k, next, taken, other)
-                }
-            }
-        }
+        Ok(Sort::Response(kind)) => respond(command, kind),
     }
 }

@@ -3,11 +3,12 @@ ghost use Rattle.desk.specs.Keeps.{ResetKeeps, FeedLentKeeps, OpenLentKeeps};
 ghost use Rattle.desk.specs.Rules.{plain_mode, echo_mode};
 
 use crate::Desk;
-use crate::feed::FedAnswer;
-use at_command::request::{Encoded, Request};
+use crate::feed::Feed;
+use at_command::request::Request;
+use text::refusal::Refusal;
 
 impl Desk {
-    pub fn feed_lent(&mut self, chunk: &[u8], text: &mut [u8]) -> FedAnswer
+    pub fn feed_lent(&mut self, chunk: &[u8], text: &mut [u8]) -> Result<Feed, Refusal>
         ensures { FeedLentKeeps self.old chunk.now text.old self.new result text.new }
     {
         let fed = (*self).feed(chunk, text);
@@ -21,7 +22,7 @@ impl Desk {
         first: &[u8],
         second: &[u8],
         out: &mut [u8],
-    ) -> Encoded
+    ) -> Result<usize, Refusal>
         ensures { OpenLentKeeps plain_mode self.old request first.now second.now out.old self.new result out.new }
     {
         let opened = (*self).open(request, first, second, out);
@@ -35,7 +36,7 @@ impl Desk {
         first: &[u8],
         second: &[u8],
         out: &mut [u8],
-    ) -> Encoded
+    ) -> Result<usize, Refusal>
         ensures { OpenLentKeeps echo_mode self.old request first.now second.now out.old self.new result out.new }
     {
         let opened = (*self).open_echo(request, first, second, out);

@@ -6,7 +6,6 @@ ghost use Rattle.desk.specs.Judge.{event_number, stray_number};
 ghost use Rattle.desk.specs.Says.{event_says};
 ghost use Rattle.desk.specs.Keeps.{NewKeeps};
 
-mod command;
 mod cutter;
 mod echo;
 mod feed;
@@ -16,27 +15,41 @@ mod open;
 mod ordinal;
 mod reset;
 
-pub use command::Command;
-pub use cutter::Cutter;
-pub use feed::{Fed, FedAnswer, FedParts, feed_on};
+use at_command::request::Awaits;
+use text::refusal::Refusal;
+pub use feed::{Fed, FedParts, Feed, Heard, feed_on};
 pub use open::{Opened, OpenedParts, open_echo_on, open_on};
 
-// The line that is coming, the answers that the open command awaits, and what was sent: sent[..echo] is the echo that comes first. None does where echo is 0, or
-// above 210, which no command is longer than. Last, the lines counted since the last accepted open or reset.
-#[derive(Clone, Copy)]
-pub struct Desk {
-    pub cutter: Cutter,
-    pub command: Command,
-    pub sent: [u8; 210],
+// What a desk keeps beside its two buffers, in numbers but for the command. Every value of every
+// field has a meaning, so no state is ill-formed. By default it is that of a new desk: zeros, and
+// no command.
+#[derive(Clone, Copy, Debug, Default, PartialEq, Eq)]
+pub struct State {
+    // How many bytes are held of the line that is coming. Above 257 it is being dropped.
+    pub len: usize,
+    // The answers that the open command still awaits; none where no command is open.
+    pub command: Option<Awaits>,
+    // The size of the echo that comes before them. None does where it is 0, or above 210, which no
+    // command is longer than.
     pub echo: usize,
+    // The lines counted since the last accepted open or reset.
     pub counted: u32,
 }
 
-// What a line, or the end of one past its length, tells.
+// line[..len] is held of the line that is coming, and sent[..echo] is the echo that is awaited.
 #[derive(Clone, Copy)]
+pub struct Desk {
+    pub line: [u8; 257],
+    pub sent: [u8; 210],
+    pub state: State,
+}
+
+// What a line, or the end of one past its length, tells.
+#[derive(Clone, Copy, Debug, PartialEq, Eq)]
 pub enum Event {
     Overlong,
-    Stray(u8),
+    // No answer that is awaited, and why it is no line that is read, if it is none.
+    Stray(Option<Refusal>),
     Failed,
     Taken,
     Done,
@@ -61,19 +74,13 @@ impl Event {
         }
     }
 
-    // The number of a stray, 0 of any other event.
+    // The number of a stray that is refused, 0 of any other event.
     pub fn stray(self) -> u64
         ensures { Gives (stray_number (event_says self)) result }
     {
         match self {
-            Event::Unsolicited => 0,
-            Event::Taken => 0,
-            Event::Done => 0,
-            Event::Short => 0,
-            Event::Failed => 0,
-            Event::Stray(n) => n as u64,
-            Event::Overlong => 0,
-            Event::Echo => 0,
+            Event::Stray(Some(refusal)) => refusal.number().into(),
+            _ => 0,
         }
     }
 }
@@ -82,14 +89,10 @@ impl Desk {
     pub fn new() -> Self
         ensures { NewKeeps result }
     {
-        let line = [0u8; 257];
-        let sent = [0u8; 210];
         Desk {
-            cutter: Cutter { line: line, len: 0 },
-            command: Command::Idle,
-            sent: sent,
-            echo: 0,
-            counted: 0,
+            line: [0; 257],
+            sent: [0; 210],
+            state: State::default(),
         }
     }
 }

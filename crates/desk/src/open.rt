@@ -2,110 +2,84 @@
 ghost use Rattle.desk.specs.Keeps.{OpenKeeps, OpenOnKeeps, OpenEchoOnKeeps};
 ghost use Rattle.desk.specs.Rules.{plain_mode, echo_mode};
 
-use crate::command::Command;
-use crate::{Desk, command};
-use at_command::request::{Encoded, Request};
+use crate::{Desk, State};
+use at_command::request::Request;
+use text::refusal::Refusal;
 use text::{copy, part};
 
-// The size of the command that was written, or the refusal: 8, 9, 5, 12, 6, 7.
+// The size of the command that was written. Refused while a command is open or a line is held, and as the writer refuses.
 #[derive(Clone, Copy)]
 pub struct Opened {
     pub desk: Desk,
-    pub answer: Encoded,
+    pub answer: Result<usize, Refusal>,
 }
 
 // The answer of an open on a desk that is lent in parts.
 #[derive(Clone, Copy)]
 pub struct OpenedParts {
-    pub command: Command,
-    pub echo: usize,
-    pub counted: u32,
-    pub answer: Encoded,
+    pub state: State,
+    pub answer: Result<usize, Refusal>,
 }
 
 // An open on a desk that is lent in parts: no open looks at the line's bytes, and this one not at what was sent.
 pub fn open_on(
-    len: usize,
-    command: Command,
-    echo: usize,
-    counted: u32,
+    state: State,
     request: Request,
     first: &[u8],
     second: &[u8],
     out: &mut [u8],
 ) -> OpenedParts
-    ensures { OpenOnKeeps len command echo counted request first.now second.now out.old result out.new }
+    ensures { OpenOnKeeps state request first.now second.now out.old result out.new }
 {
-    if command::is_open(command) {
+    if state.command.is_some() {
         return OpenedParts {
-            command: command,
-            echo: echo,
-            counted: counted,
-            answer: Encoded::Refused(8),
+            state,
+            answer: Err(Refusal::CommandOpen),
         };
     }
-    if len > 0 {
+    if state.len > 0 {
         return OpenedParts {
-            command: command,
-            echo: echo,
-            counted: counted,
-            answer: Encoded::Refused(9),
+            state,
+            answer: Err(Refusal::LineHeld),
         };
     }
-    let written = request.encode(first, second, out);
-    match written {
-        Encoded::Refused(k) => OpenedParts {
-            command: command,
-            echo: echo,
-            counted: counted,
-            answer: Encoded::Refused(k),
-        },
-        Encoded::Size(n) => {
-            let awaits = request.awaits();
-            let opened = command::opened(awaits);
-            OpenedParts {
-                command: opened,
+    let answer = request.encode(first, second, out);
+    match answer {
+        Err(_) => OpenedParts { state, answer },
+        Ok(_) => OpenedParts {
+            state: State {
+                command: Some(request.awaits()),
                 echo: 0,
                 counted: 0,
-                answer: Encoded::Size(n),
-            }
-        }
+                ..state
+            },
+            answer,
+        },
     }
 }
 
 // The same in echo mode: what is written is kept, and awaited before the answers. Nothing is kept of an open that is refused.
 pub fn open_echo_on(
-    len: usize,
-    command: Command,
+    state: State,
     sent: &mut [u8; 210],
-    echo: usize,
-    counted: u32,
     request: Request,
     first: &[u8],
     second: &[u8],
     out: &mut [u8],
 ) -> OpenedParts
-    ensures { OpenEchoOnKeeps len command sent.old echo counted request first.now second.now out.old result sent.new out.new }
+    ensures { OpenEchoOnKeeps state sent.old request first.now second.now out.old result sent.new out.new }
 {
-    let opened = open_on(len, command, echo, counted, request, first, second, out);
-    let after = opened.command;
-    let answer = opened.answer;
-    match answer {
-        Encoded::Refused(k) => OpenedParts {
-            command: after,
-            echo: opened.echo,
-            counted: opened.counted,
-            answer: Encoded::Refused(k),
+    let opened = open_on(state, request, first, second, out);
+    let Ok(size) = opened.answer else {
+        return opened;
+    };
+    let _end = copy::lay(part::part(out, 0, size), 0, sent);
+    OpenedParts {
+        state: State {
+            echo: size,
+            ..opened.state
         },
-        Encoded::Size(n) => {
-            let _end = copy::lay(part::part(out, 0, n), 0, sent);
-            OpenedParts {
-                command: after,
-                echo: n,
-                counted: opened.counted,
-                answer: Encoded::Size(n),
-            }
-        }
+        ..opened
     }
 }
 
@@ -113,62 +87,34 @@ impl Desk {
     pub fn open(self, request: Request, first: &[u8], second: &[u8], out: &mut [u8]) -> Opened
         ensures { OpenKeeps plain_mode self request first.now second.now out.old result out.new }
     {
-        let cutter = self.cutter;
-        let command = self.command;
-        let sent = self.sent;
-        let parts = open_on(
-            cutter.len,
-            command,
-            self.echo,
-            self.counted,
-            request,
-            first,
-            second,
-            out,
-        );
-        let after = parts.command;
-        let answer = parts.answer;
+        let OpenedParts { state, answer } = open_on(self.state, request, first, second, out);
         Opened {
-            desk: Desk {
-                cutter: cutter,
-                command: after,
-                sent: sent,
-                echo: parts.echo,
-                counted: parts.counted,
-            },
-            answer: answer,
+            desk: Desk { state, ..self },
+            answer,
         }
     }
 
     // For a modem with echo on: until the command comes back as a line, no answer is taken for it.
-    pub fn open_echo(self, request: Request, first: &[u8], second: &[u8], out: &mut [u8]) -> Opened
+    pub fn open_echo(
+        mut self,
+        request: Request,
+        first: &[u8],
+        second: &[u8],
+        out: &mut [u8],
+    ) -> Opened
         ensures { OpenKeeps echo_mode self request first.now second.now out.old result out.new }
     {
-        let cutter = self.cutter;
-        let command = self.command;
-        let mut sent = self.sent;
-        let parts = open_echo_on(
-            cutter.len,
-            command,
-            &mut sent,
-            self.echo,
-            self.counted,
+        let OpenedParts { state, answer } = open_echo_on(
+            self.state,
+            &mut self.sent,
             request,
             first,
             second,
             out,
         );
-        let after = parts.command;
-        let answer = parts.answer;
         Opened {
-            desk: Desk {
-                cutter: cutter,
-                command: after,
-                sent: sent,
-                echo: parts.echo,
-                counted: parts.counted,
-            },
-            answer: answer,
+            desk: Desk { state, ..self },
+            answer,
         }
     }
 }

@@ -25,3 +25,5 @@ module _ (n : ℕ) where
       pub awaited_past : 183 ≤ n → awaiting [] ≡ awaiting (awaited_in n)
       unfolding awaited_in
       awaited_past h = rw (ne_eqb n 0 some, le-ltb _ _ more, le-ltb _ _ h)
+
+pub ruleset awaits = (awaited_none, awaited_one, awaited_two, awaited_past)

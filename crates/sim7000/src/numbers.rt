@@ -1,54 +1,69 @@
-// The numbers that stand for the desk's command.
-ghost use Rattle.std.specs.Prelude.{◌≡◌, ◌<◌};
+// The numbers that stand for a desk's state.
+ghost use Rattle.std.specs.Prelude.{◌≡◌, List, ℕ};
 ghost use Rattle.desk.specs.Judge.{awaiting};
 ghost use Rattle.desk.specs.Ordinal.{capped};
-ghost use Rattle.desk.specs.Says.{command_says};
-ghost use Rattle.sim7000.specs.Parts.{awaited_in, number_of};
+ghost use Rattle.desk.specs.Says.{command_says, state_in};
+ghost use Rattle.sim7000.specs.Parts.{awaited_in, number_of, desk_in, numbers_of};
 
-use at_command::request::ResponseKind;
-use desk::Command;
+use at_command::request::{Awaits, ResponseKind};
+use desk::State;
 
-pub(crate) fn command_in(n: u64) -> Command
+#[tactic(auto, using(crate::proofs::Commands::awaits))]
+fn command_in(n: u64) -> Option<Awaits>
     ensures { command_says result ≡ awaiting (awaited_in n) }
 {
-    if n == 0 {
-        return Command::Idle;
+    match n {
+        1..=13 => Some(Awaits::One(ResponseKind::at(n - 1))),
+        14..=182 => {
+            let m = n - 14;
+            Some(Awaits::Two(
+                ResponseKind::at(m / 13),
+                ResponseKind::at(m % 13),
+            ))
+        }
+        _ => None,
     }
-    if n < 14 {
-        return Command::One(ResponseKind::at(n - 1));
-    }
-    if n < 183 {
-        let m = n - 14;
-        return Command::Two(ResponseKind::at(m / 13), ResponseKind::at(m % 13));
-    }
-    Command::Idle
 }
 
-pub(crate) fn number_of(command: Command) -> u64
+fn number_of(command: Option<Awaits>) -> u64
     ensures { result ≡ number_of (command_says command).awaited }
 {
     match command {
-        Command::Idle => 0,
-        Command::One(a) => 1 + a.place() as u64,
-        Command::Two(a, b) => 14 + 13 * a.place() as u64 + b.place() as u64,
+        None => 0,
+        Some(Awaits::One(a)) => 1 + u64::from(a.place()),
+        Some(Awaits::Two(a, b)) => 14 + 13 * u64::from(a.place()) + u64::from(b.place()),
     }
 }
 
-// A number of u64 as a count of lines: a greater one is read as the greatest.
-pub(crate) fn count_in(n: u64) -> u32
+// A number as a count of lines: a greater one is read as the greatest.
+#[tactic(auto, using(desk::proofs::Numbering::capped_few, desk::proofs::Numbering::capped_many))]
+fn count_in(n: u64) -> u32
     ensures { result ≡ capped n }
 {
-    if n < 4294967295 {
-        return n as u32;
-    }
-    4294967295
+    u32::try_from(n).unwrap_or(u32::MAX)
 }
 
-// A number of u64 as a count of bytes: both have 64 bits.
-pub(crate) fn size_in(n: u64) -> usize
-    ensures { result ≡ n }
+// The state that the numbers are: each has a meaning.
+pub(crate) fn state_in(numbers: &[u64; 4]) -> State
+    ensures { (line sent : List ℕ) → state_in line result sent ≡ desk_in line numbers.now sent }
 {
-    n as usize
+    State {
+        len: numbers[0] as usize,
+        command: command_in(numbers[1]),
+        echo: numbers[2] as usize,
+        counted: count_in(numbers[3]),
+    }
+}
+
+pub(crate) fn numbers_of(state: State) -> [u64; 4]
+    ensures { (line sent : List ℕ) → result ≡ numbers_of (state_in line state sent) }
+{
+    [
+        state.len as u64,
+        number_of(state.command),
+        state.echo as u64,
+        state.counted.into(),
+    ]
 }
 
 pub(crate) fn number_in(n: usize) -> u64
@@ -60,5 +75,5 @@ pub(crate) fn number_in(n: usize) -> u64
 pub(crate) fn wide(n: u32) -> u64
     ensures { result ≡ n }
 {
-    n as u64
+    n.into()
 }

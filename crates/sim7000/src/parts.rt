@@ -1,19 +1,21 @@
 // The desk in lent parts: opened, fed, reset.
+ghost use Rattle.std.specs.Prelude.{◌≡◌};
+ghost use Rattle.desk.specs.Says.{heard_says};
 ghost use Rattle.sim7000.specs.Command.{ExportOpenKeeps, ExportOpenEchoKeeps};
-ghost use Rattle.sim7000.specs.Parts.{ExportResetKeeps, ExportIsOpenKeeps, ExportFeedKeeps};
+ghost use Rattle.sim7000.specs.Parts.{told_of, ExportResetKeeps, ExportIsOpenKeeps, ExportFeedKeeps};
 ghost use Rattle.sim7000.specs.says.Left.{LeaveKeeps};
 
 use crate::request::Wanted;
 use crate::{numbers, request};
 use at_command::request::Encoded;
-use desk::{Command, FedAnswer, OpenedParts};
+use desk::{Feed, OpenedParts};
 
 // Zeros are the state after it: idle, no echo awaited, nothing held, and no line counted.
 #[unsafe(no_mangle)]
 pub extern "C" fn sim7000_reset(state: &mut [u64; 4])
     ensures { ExportResetKeeps state.old state.new }
 {
-    *state = [0, 0, 0, 0];
+    *state = [0; 4];
 }
 
 // 1 while a command is open, else 0.
@@ -21,28 +23,18 @@ pub extern "C" fn sim7000_reset(state: &mut [u64; 4])
 pub extern "C" fn sim7000_is_open(state: &[u64; 4]) -> u8
     ensures { ExportIsOpenKeeps state.now result }
 {
-    let command = numbers::command_in(state[1]);
-    match command {
-        Command::Idle => 0,
-        Command::One(_) => 1,
-        Command::Two(_, _) => 1,
-    }
+    numbers::state_in(state).command.is_some().into()
 }
 
 // What an open leaves in the numbers; a refusal leaves them.
 fn leave(opened: OpenedParts, state: &mut [u64; 4], size: &mut u64) -> u8
     ensures { LeaveKeeps opened state.old size.old result state.new size.new }
 {
-    let answer = opened.answer;
-    match answer {
+    match opened.answer {
         Encoded::Refused(k) => k,
         Encoded::Size(n) => {
-            let after = opened.command;
-            let held = state[0];
-            let awaited = numbers::number_of(after);
-            let kept = numbers::number_in(opened.echo);
-            *state = [held, awaited, kept, numbers::wide(opened.counted)];
-            *size = numbers::number_in(n);
+            *state = numbers::numbers_of(opened.state);
+            *size = n as u64;
             0
         }
     }
@@ -66,11 +58,7 @@ pub extern "C" fn sim7000_open(
     match wanted {
         Wanted::Not => 3,
         Wanted::Is(q) => {
-            let len = numbers::size_in(state[0]);
-            let command = numbers::command_in(state[1]);
-            let echo = numbers::size_in(state[2]);
-            let counted = numbers::count_in(state[3]);
-            let opened = desk::open_on(len, command, echo, counted, q, first, second, out);
+            let opened = desk::open_on(numbers::state_in(state), q, first, second, out);
             leave(opened, state, size)
         }
     }
@@ -95,15 +83,27 @@ pub extern "C" fn sim7000_open_echo(
     match wanted {
         Wanted::Not => 3,
         Wanted::Is(q) => {
-            let len = numbers::size_in(state[0]);
-            let command = numbers::command_in(state[1]);
-            let echo = numbers::size_in(state[2]);
-            let counted = numbers::count_in(state[3]);
-            let opened = desk::open_echo_on(
-                len, command, sent, echo, counted, q, first, second, out,
-            );
+            let before = numbers::state_in(state);
+            let opened = desk::open_echo_on(before, sent, q, first, second, out);
             leave(opened, state, size)
         }
+    }
+}
+
+// What a feed tells, in numbers.
+fn told_of(feed: Feed) -> [u64; 5]
+    ensures { result ≡ told_of (heard_says feed.taken feed.heard) }
+{
+    let taken = feed.taken as u64;
+    match feed.heard {
+        None => [0, taken, 0, 0, 0],
+        Some(heard) => [
+            heard.event.number(),
+            taken,
+            heard.size as u64,
+            heard.event.stray(),
+            heard.ordinal.into(),
+        ],
     }
 }
 
@@ -119,40 +119,12 @@ pub extern "C" fn sim7000_feed(
 ) -> u8
     ensures { ExportFeedKeeps line.old state.old sent.now chunk.now text.old told.old result line.new state.new text.new told.new }
 {
-    let len = numbers::size_in(state[0]);
-    let command = numbers::command_in(state[1]);
-    let echo = numbers::size_in(state[2]);
-    let counted = numbers::count_in(state[3]);
-    let fed = desk::feed_on(line, len, command, sent, echo, counted, chunk, text);
-    let after = fed.command;
-    let answer = fed.answer;
-    let held = numbers::number_in(fed.len);
-    let awaited = numbers::number_of(after);
-    let kept = numbers::number_in(fed.echo);
-    let lines = numbers::wide(fed.counted);
-    match answer {
-        FedAnswer::Refused(k) => k,
-        FedAnswer::Quiet(taken) => {
-            *state = [held, awaited, kept, lines];
-            *told = [0, numbers::number_in(taken), 0, 0, 0];
-            0
-        }
-        FedAnswer::Heard {
-            event,
-            ordinal,
-            taken,
-            size,
-        } => {
-            let kind = event.number();
-            let stray = event.stray();
-            *state = [held, awaited, kept, lines];
-            *told = [
-                kind,
-                numbers::number_in(taken),
-                numbers::number_in(size),
-                stray,
-                numbers::wide(ordinal),
-            ];
+    let fed = desk::feed_on(line, numbers::state_in(state), sent, chunk, text);
+    match fed.answer {
+        Err(k) => k,
+        Ok(feed) => {
+            *state = numbers::numbers_of(fed.state);
+            *told = told_of(feed);
             0
         }
     }

@@ -185,6 +185,9 @@ module _ (l : List ℕ) where
       go false true false true = (omega arith, omega arith)
       go false true false false = (omega arith, omega arith)
 
+  pub refusal_order : {k : ℕ} → refused k ≡ line_said l → k ≡ line_refusal l
+  refusal_order e = refused_so _ (sym e)
+
   pub refusal_low : {k : ℕ} → refused k ≡ line_said l → k ≤ 13
   refusal_low {k} e = rw (refused_so k (sym e)) bounds.1
 

@@ -4,16 +4,12 @@ use Rattle.desk.specs.Says.{answer_says}
 use Rattle.sim7000.proofs.Feeding.{feed_refused, feed_heard}
 use Rattle.sim7000.proofs.parts.sim7000_feed.Goals as goal
 
-pub returns-in-Refused : goal.returns-in-Refused
-returns-in-Refused c = let made = rw (c.count_in-counted.ensures, c.size_in-echo.ensures, c.command_in-command.ensures, c.size_in-len.ensures) at c.feed_on-fed.ensures in
-    feed_refused _ _ _ _ _ _ _ made (ap answer_says c.in-Refused.is)
+pub returns-in-Err : goal.returns-in-Err
+returns-in-Err c = let a = c.args in
+    let made = rw (c.state_in.ensures a.line.now a.sent.now) at c.feed_on-fed.ensures in
+    feed_refused _ _ _ _ _ _ _ made (ap answer_says c.in-Err.is)
 
-pub returns-in-Quiet : goal.returns-in-Quiet
-returns-in-Quiet c = let made = rw (c.count_in-counted.ensures, c.size_in-echo.ensures, c.command_in-command.ensures, c.size_in-len.ensures) at c.feed_on-fed.ensures in
-    rw (c.wide-lines.ensures, c.number_in-kept.ensures, c.number_of-awaited.ensures, c.number_in-held.ensures, c.number_in.ensures)
-    (feed_heard _ _ _ _ _ _ _ made (ap answer_says c.in-Quiet.is))
-
-pub returns-in-Heard : goal.returns-in-Heard
-returns-in-Heard c = let made = rw (c.count_in-counted.ensures, c.size_in-echo.ensures, c.command_in-command.ensures, c.size_in-len.ensures) at c.feed_on-fed.ensures in
-    rw (c.wide-lines.ensures, c.number_in-kept.ensures, c.number_of-awaited.ensures, c.number_in-held.ensures, c.number-kind.ensures, c.stray-stray.ensures, c.number_in-in-Heard.ensures, c.number_in-in-Heard-2.ensures, c.wide.ensures)
-    (feed_heard _ _ _ _ _ _ _ made (ap answer_says c.in-Heard.is))
+pub returns-in-Ok : goal.returns-in-Ok
+returns-in-Ok c = let a = c.args in
+    let made = rw (c.state_in.ensures a.line.now a.sent.now) at c.feed_on-fed.ensures in
+    rw (c.told_of.ensures, c.numbers_of.ensures c.feed_on-fed.new.line a.sent.now) (feed_heard _ _ _ _ _ _ _ made (ap answer_says c.in-Ok.is))

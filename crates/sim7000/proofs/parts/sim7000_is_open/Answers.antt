@@ -1,24 +1,25 @@
--- `sim7000_is_open` meets its contract: each kind of command is open or idle as the numbers are.
-use mathlib.Core.Path.{◌≡◌, sym, ap, ◌∙◌}
-use Rattle.desk.specs.Judge as J
-use Rattle.desk.specs.Says.{command_says}
-use Rattle.desk.specs.declared.command.Command.{Command}
-use mathlib.Core.Bool.{cond}
+-- `sim7000_is_open` meets its contract: a command is open where some answer is awaited.
 use Prim.Native.Nat.{ℕ}
+use mathlib.Core.Path.{◌≡◌, refl, sym, ap, ◌∙◌}
+use mathlib.Core.Bool.{Bool, true, false, cond}
+use mathlib.Core.List.{[]}
+use mir.Val.{bool_byte}
+use Rattle.std.specs.Prelude.{Option, is_some}
+use Rattle.at_command.specs.declared.request.Awaits.{Awaits}
+use Rattle.desk.specs.Judge.{is_open}
+use Rattle.desk.specs.Desk.{State, command_kept}
+use Rattle.desk.specs.Says.{command_says}
+use Rattle.desk.proofs.Opening.{some_open}
 use Rattle.sim7000.proofs.parts.sim7000_is_open.Goals as goal
 
-abbrev open-number : J.Command → ℕ
-open-number x = cond (J.is_open x) 1 0
+byte_is : (b : Bool) → bool_byte b ≡ cond b 1 0
+byte_is true = refl
+byte_is false = refl
 
--- what the numbers say of the command that they stand for
-told : (a b : Command) (x : J.Command) → a ≡ b → command_says a ≡ x → open-number (command_says b) ≡ open-number x
-told a b x e f = ap (λ (d : Command). open-number (command_says d)) (sym e) ∙ ap open-number f
+open_byte : (o : Option Awaits) {b : Bool} {n : ℕ} → n ≡ bool_byte b → b ≡ is_some o → n ≡ cond (is_open (command_says o)) 1 0
+open_byte o e f = e ∙ ap bool_byte (f ∙ sym (some_open o)) ∙ byte_is (is_open (command_says o))
 
-pub returns-in-Idle : goal.returns-in-Idle
-returns-in-Idle c = told _ _ _ c.in-Idle.is c.command_in-command.ensures
-
-pub returns-in-One : goal.returns-in-One
-returns-in-One c = told _ _ _ c.in-One.is c.command_in-command.ensures
-
-pub returns-in-Two : goal.returns-in-Two
-returns-in-Two c = told _ _ _ c.in-Two.is c.command_in-command.ensures
+pub returns : goal.returns
+returns c =
+    open_byte c.state_in.result.command c.into.ensures c.is_some.ensures
+    ∙ ap (λ (s : State). cond (is_open (command_kept s.command)) 1 0) (c.state_in.ensures [] [])

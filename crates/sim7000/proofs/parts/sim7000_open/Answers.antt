@@ -10,5 +10,5 @@ returns-in-Not c = λ line sent full. let a = c.args in
 
 pub returns-in-Is : goal.returns-in-Is
 returns-in-Is c = λ line sent full. let a = c.args in
-    let made = rw (c.count_in-counted.ensures, c.size_in-echo.ensures, c.command_in-command.ensures, c.size_in-len.ensures) at (c.open_on-opened.ensures line sent full) in
+    let made = rw (c.state_in.ensures line sent) at (c.open_on-opened.ensures line sent full) in
     c.leave.ensures line _ _ ∙ opens_left plain_mode _ line _ sent _ _ (rw c.in-Is.is at (c.request_in-wanted.ensures a.first.now a.second.now)) _ made

@@ -10,5 +10,5 @@ returns-in-Not c = λ line full. let a = c.args in
 
 pub returns-in-Is : goal.returns-in-Is
 returns-in-Is c = λ line full. let a = c.args in
-    let made = rw (c.count_in-counted.ensures, c.size_in-echo.ensures, c.command_in-command.ensures, c.size_in-len.ensures) at (c.open_echo_on-opened.ensures line full) in
+    let made = rw (c.state_in-before.ensures line a.sent.now) at (c.open_echo_on-opened.ensures line full) in
     c.leave.ensures line _ _ ∙ opens_left echo_mode _ line _ _ _ _ (rw c.in-Is.is at (c.request_in-wanted.ensures a.first.now a.second.now)) _ made
