@@ -1,13 +1,19 @@
 -- Laws of the table and of the judge. Nothing is known of the readers.
 use Prim.Native.Nat.{ℕ, ◌≤◌}
-use mathlib.Core.Path.{◌≡◌, refl, sym, subst}
+use mathlib.Core.Path.{◌≡◌, refl, sym, subst, ◌∙◌}
 use mathlib.Core.Bool.{Bool, true, false, cond, ◌&&◌}
 use mathlib.Core.List.{List, [], ◌∷◌}
 use mathlib.Core.Option.{Option, none, some}
 use native.Mathlib.Omega.{arith}
 use lib.ListN.{length, drop}
 use Rattle.text.specs.Reading.{Reading, read}
-use Rattle.at_command.specs.Kind.{Kind, generic_ok, sim_error}
+use denote.Enum.Declared.{tag_of}
+use denote.Enum.Bare.{sameb}
+use Rattle.at_command.specs.Kind.{Kind, generic_ok, sim_error, place_of}
+use Rattle.at_command.specs.says.Request.{kind_says}
+use Rattle.at_command.specs.contracts.request.ResponseKind.{the_type}
+use Rattle.at_command.specs.declared.request.ResponseKind.{ResponseKind}
+use Rattle.at_command.specs.declared.request.ResponseKind.TheVariants as K
 use Rattle.trial.specs.Sort.{Sort, response, unsolicited, line_sort}
 use Rattle.desk.specs.Lines.{Line, overlong, line}
 use Rattle.desk.specs.Judge as J
@@ -24,13 +30,38 @@ table_unsolicited c = by c.awaited
     by [] = refl
     by (k ∷ ks) = refl
 
+-- the kinds have their places for tags, so that two are equal where they are the same
+tag_place : (a : ResponseKind) → tag_of the_type a ≡ place_of (kind_says a)
+tag_place K.GenericOk = refl
+tag_place K.SimError = refl
+tag_place K.WritePrompt = refl
+tag_place K.CloseOk = refl
+tag_place K.Iccid = refl
+tag_place K.SignalQuality = refl
+tag_place K.SystemInfo = refl
+tag_place K.OperatorInfo = refl
+tag_place K.NetworkTime = refl
+tag_place K.DownloadInfo = refl
+tag_place K.Imei = refl
+tag_place K.SmsMessageFormat = refl
+tag_place K.SmsMessage = refl
+
+same_says : (a b : ResponseKind) → same_kind (kind_says a) (kind_says b) ≡ sameb the_type a b
+same_says a b = rw (tag_place a, tag_place b)
+
 -- a response, where this answer is awaited next
-pub table_response : {ks : List Kind} {next : Kind} {taken : Ruling} (k : Kind) → Next ks next taken
+table_response : {ks : List Kind} {next : Kind} {taken : Ruling} (k : Kind) → Next ks next taken
     → table (awaiting ks) (read (response k))
     ≡ cond (same_kind k sim_error) (closes J.Failed) (cond (same_kind k next) taken (cond (same_kind k generic_ok) (closes J.Short) (stays (awaiting ks) (J.Stray 0))))
 unfolding table
 table_response {ks = []} k is = let e = is.first in never (cc)
 table_response {ks = n ∷ ks} {next} k is = let e : n ≡ next = (let f = is.first in cc) in rw (is.takes, e)
+
+-- as the code tests it
+pub table_tested : {ks : List Kind} {taken : Ruling} (k next : ResponseKind) → Next ks (kind_says next) taken
+    → {u v w : Bool} → u ≡ sameb the_type k K.SimError → v ≡ sameb the_type k next → w ≡ sameb the_type k K.GenericOk
+    → table (awaiting ks) (read (response (kind_says k))) ≡ cond u (closes J.Failed) (cond v taken (cond w (closes J.Short) (stays (awaiting ks) (J.Stray 0))))
+table_tested k next is e f g = table_response (kind_says k) is ∙ rw (same_says k K.SimError, same_says k next, same_says k K.GenericOk, e, f, g)
 
 -- what holds of each row's ruling holds of the table's
 table_cases : (P : Ruling → Type 0) (c : Command) (s : Reading Sort) → P (stays c (J.Stray (J.number_of s))) → P (closes J.Failed) → P (takes_next c.awaited) → P (closes J.Short)

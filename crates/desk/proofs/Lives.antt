@@ -131,7 +131,7 @@ stray_known : (l : List ℕ) → let n = J.number_of (line_sort l) in stray_says
 unfolding line_sort
 stray_known l = by_sort (line_sort l) refl
   where
-    by_refusal : (a b c d : Bool) → let n = cond a 1 (cond b (cond c 4 (cond d 13 3)) 2) in stray_says (stray_in n) ≡ n
+    by_refusal : (a b c d : Bool) → let n : ℕ = cond a 1 (cond b (cond c 4 (cond d 13 3)) 2) in stray_says (stray_in n) ≡ n
     by_refusal true b c d = stray_again (Some LineTooLong)
     by_refusal false false c d = stray_again (Some NotUtf8)
     by_refusal false true true d = stray_again (Some TextTooLong)

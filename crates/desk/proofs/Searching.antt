@@ -1,6 +1,6 @@
 -- Laws of a search through a chunk: its turns, the bytes that are laid at once, and the bytes with no LF.
-use Prim.Native.Nat.{ℕ, suc, ◌+◌, ◌-◌, ◌≤◌, ◌<◌}
-use mathlib.Core.Path.{◌≡◌, refl, sym, ◌∙◌}
+use Prim.Native.Nat.{ℕ, zero, suc, min, ◌+◌, ◌-◌, ◌≤◌, ◌<◌}
+use mathlib.Core.Path.{◌≡◌, refl, sym, ap, ◌∙◌}
 use mathlib.Core.Bool.{Bool, true, false, ◌||◌}
 use mathlib.Core.Logic.{⊎_elim}
 use mathlib.Core.List.{List, [], ◌∷◌, ◌++◌}
@@ -8,10 +8,15 @@ use mathlib.Core.Option.{Option, none, some}
 use Rattle.std.specs.Prelude as P
 use native.Mathlib.Omega.{arith}
 use native.Mathlib.Numerals.{add-one}
-use lib.ListN.{length, take, drop, get_or, set, length-set, drop_of_length-le}
-use lib.Seq.{drop-cons, get_or-set_same}
+use lib.ListN.{length, take, drop, get_or, set, length-set, length-drop, drop_of_length-le}
+use Rattle.text.specs.Copy.{LayKeeps}
+use Rattle.text.proofs.Copying.{whole_holds}
+use Rattle.std.proofs.lemmas.List.{take-take, get_or-drop}
+use Rattle.text.proofs.Parts.{index_le}
+use Rattle.text.specs.Bytes.{index_of}
+use lib.Seq.{length-take-le, drop-cons, get_or-take, get_or-set_same, paste, paste-zero, paste-suc}
 use lib.Dec.{ltb, eqb}
-use borrow.Author.Tests.{ltb-true, ltb-false, eqb-true, eqb-false}
+use borrow.Author.Tests.{eq-eqb, eqb-true, eqb-false}
 use Rattle.desk.specs.Cut.{is_prompt}
 use Rattle.desk.specs.Machine.{Step, Stop, onward, feed}
 use Rattle.desk.specs.Lines.{Line}
@@ -19,7 +24,7 @@ use Rattle.desk.specs.Desk.{Tray, buffered}
 use Rattle.desk.specs.Says.{found_line}
 use Rattle.desk.specs.declared.cutter.Piece.{Piece as PieceCode}
 use Rattle.desk.specs.declared.cutter.Piece.TheVariants as C
-use Rattle.desk.specs.Search.{tray_of, found_after, Filled, Clear, Plain, Room, Laid}
+use Rattle.desk.specs.Search.{tray_of, found_after, Filled, Plain}
 use Rattle.text.proofs.Tests.{both, neither, never}
 use Rattle.desk.proofs.Cutting.{past_below, prompt_first, prompt_far, push_more}
 
@@ -72,46 +77,17 @@ module _ (chunk : List ℕ) (i : ℕ) (t : Tray) where
     pub search_on : stops p.tell ≡ false → found_after i t (drop i chunk) ≡ found_after (i + 1) p.state (drop (i + 1) chunk)
     search_on g = rw (drop-cons chunk i 0 more, e, add-one i) (rw (add-one i) at (found_on i t (get_or chunk i 0) (drop (suc i) chunk) (rw e at g)))
 
--- ---- bytes laid at once
-
-pub fill_none : (s : List ℕ) (len : ℕ) (chunk : List ℕ) (at : ℕ) → Filled s len chunk at 0 s
-fill_none s len chunk at =
-    let e : at + 0 ≡ at = omega arith in
-    let g : len + 0 ≡ len = omega arith in
-    record { few = omega arith; fits = omega arith; long = refl; on = rw (e, g) }
-
--- ---- bytes with no LF
-
-pub clear_join : {s : List ℕ} {at n m : ℕ} → Clear s at n → Clear s (at + n) m → Clear s at (n + m)
-clear_join {s} {at} {n} {m} f g =
-    record {
-      none = λ k h e.
-          ⊎_elim
-          (λ (q : ltb k n ≡ true). f.none k (ltb-true k n q) e)
-          (λ (q : ltb k n ≡ false).
-          let le = ltb-false k n q in
-          let z : at + k ≡ at + n + (k - n) = omega arith in
-          g.none (k - n) (omega arith) (rw z at e))
-          (both (ltb k n));
-    }
-
-pub clear_at : {s : List ℕ} {at : ℕ} → (get_or s at 0 ≡ 10 → ⊥) → Clear s at 1
-clear_at {s} {at} g = record { none = λ k h e. let z : at + k ≡ at = omega arith in g (rw z at e) }
-
-pub clear_one : {s : List ℕ} {at n : ℕ} → Clear s at n → (get_or s (at + n) 0 ≡ 10 → ⊥) → Clear s at (n + 1)
-clear_one f g = clear_join f (clear_at g)
-
--- tests joined by `|`
-pub clear_test : {s : List ℕ} {at : ℕ} → eqb (get_or s at 0) 10 ≡ false → Clear s at 1
-clear_test e = clear_at (eqb-false _ 10 e)
-
-pub clear_tests : {s : List ℕ} {at n : ℕ} {x : Bool} → (x ≡ false → Clear s at n) → x || eqb (get_or s (at + n) 0) 10 ≡ false → Clear s at (n + 1)
-clear_tests f e = let g = neither _ _ e in clear_one (f g.0) (eqb-false _ 10 g.1)
-
-pub clear_both : {s : List ℕ} {at n m : ℕ} {x y : Bool} → (x ≡ false → Clear s at n) → (y ≡ false → Clear s (at + n) m) → x || y ≡ false → Clear s at (n + m)
-clear_both f g e = let h = neither _ _ e in clear_join (f h.0) (g h.1)
-
 -- ---- bytes laid, none of them an LF or part of a prompt
+
+-- no b stands before the first
+pub before_found : (b : ℕ) (s : List ℕ) {n : ℕ} → n ≡ 0 + index_of b s → (n ≤ length s) × ((k : ℕ) → k < n → get_or s k 0 ≡ b → ⊥)
+before_found b s {n} is = (omega (arith, index_le b s), λ k h. go s k (omega arith))
+  where
+    go : (l : List ℕ) (k : ℕ) → k < index_of b l → get_or l k 0 ≡ b → ⊥
+    go [] k h e = omega arith
+    go (x ∷ l) zero h e = let f = rw (eq-eqb x b e) at h in omega arith
+    go (x ∷ l) (suc k) h e =
+        ⊎_elim (λ (f : eqb x b ≡ true). let g = rw f at h in omega arith) (λ (f : eqb x b ≡ false). let g = rw f at h in go l k (omega arith) e) (both (eqb x b))
 
 module _ {s : List ℕ} {len b : ℕ} where
   pub plain_none : len ≡ 0 → eqb b 62 ≡ false → Plain s len b
@@ -138,25 +114,31 @@ keep_byte : (s : List ℕ) (len b : ℕ) → length s ≡ 257 → len < 256 → 
     → ◌≡◌ {A = Step Tray Line} (record { state = tray_of (set s len b) (len + 1); tell = none }) (buffered (tray_of s len) b)
 keep_byte s len b full room p e = push_more s full len b e (past_below len b room) refl (plain_push s len b full room p) refl
 
-pub fill_room : {s : List ℕ} {len : ℕ} {chunk : List ℕ} {at m : ℕ} → length s ≡ 257 → len ≤ 255 → at < length chunk → (m ≤ length chunk - at) × (m ≤ 256 - len)
-    → Plain s len (get_or chunk at 0) → Room s len chunk at m
-fill_room full few more least p = record { long = full; fits = omega (arith, least); some = omega (arith, least); plain = p }
+-- n bytes are held, and no prompt can come of the next either
+record Laid (bytes : List ℕ) (len : ℕ) (chunk : List ℕ) (at n : ℕ) (after : List ℕ) : Type 0 where
+  pub filled : Filled bytes len chunk at n after
+  pub plain : Plain after (len + n) (get_or chunk (at + n) 0)
 
-module _ {s : List ℕ} {len : ℕ} {chunk : List ℕ} {at most : ℕ} (r : Room s len chunk at most) where
-  pub laid_none : Laid s len chunk at most 0 s
-  laid_none =
+module _ {s : List ℕ} {len : ℕ} {chunk : List ℕ} {at : ℕ} where
+  pub fill_none : Filled s len chunk at 0 s
+  fill_none =
       let e : at + 0 ≡ at = omega arith in
       let g : len + 0 ≡ len = omega arith in
-      record { within = omega arith; filled = fill_none s len chunk at; plain = rw (e, g) r.plain }
+      record { few = omega arith; fits = omega arith; long = refl; on = rw (e, g) }
 
-  pub laid_byte : {n : ℕ} {now : List ℕ} → Laid s len chunk at most n now → n < most → (get_or chunk (at + n) 0 ≡ 10 → ⊥)
-      → Laid s len chunk at most (n + 1) (set now (len + n) (get_or chunk (at + n) 0))
-  laid_byte {n} {now} l more other =
-      let full : length now ≡ 257 = l.filled.long ∙ r.long in
+  laid_none : Plain s len (get_or chunk at 0) → Laid s len chunk at 0 s
+  laid_none p =
+      let e : at + 0 ≡ at = omega arith in
+      let g : len + 0 ≡ len = omega arith in
+      record { filled = fill_none; plain = rw (e, g) p }
+
+  laid_byte : {n : ℕ} {now : List ℕ} → length s ≡ 257 → Laid s len chunk at n now → len + n < 256 → at + n < length chunk → (get_or chunk (at + n) 0 ≡ 10 → ⊥)
+      → Laid s len chunk at (n + 1) (set now (len + n) (get_or chunk (at + n) 0))
+  laid_byte {n} {now} whole l room more other =
+      let full : length now ≡ 257 = l.filled.long ∙ whole in
       let e : at + (n + 1) ≡ at + n + 1 = omega arith in
       let g : len + (n + 1) ≡ len + n + 1 = omega arith in
       record {
-        within = omega arith;
         filled =
             record {
               few = omega arith;
@@ -164,32 +146,33 @@ module _ {s : List ℕ} {len : ℕ} {chunk : List ℕ} {at most : ℕ} (r : Room
               long = simp length-set l.filled.long;
               on =
                   rw (e, g)
-                  (l.filled.on ∙ search_on chunk (at + n) (tray_of now (len + n)) (omega arith) (keep_byte now (len + n) (get_or chunk (at + n) 0) full (omega arith) l.plain other) refl);
+                  (l.filled.on ∙ search_on chunk (at + n) (tray_of now (len + n)) more (keep_byte now (len + n) (get_or chunk (at + n) 0) full room l.plain other) refl);
             };
         plain = rw (e, g) (plain_next now (len + n) (get_or chunk (at + n) 0) (get_or chunk (at + n + 1) 0) full l.plain);
       }
 
-  -- where no LF is among them
-  module _ (k : Clear chunk at most) where
-    pub laid_first : 0 < most → Laid s len chunk at most 1 (set s len (get_or chunk at 0))
-    laid_first more =
-        let e : at + 0 ≡ at = omega arith in
-        let g : len + 0 ≡ len = omega arith in
-        rw (e, g) at (laid_byte laid_none more (k.none 0 more))
+  -- n bytes, none of them an LF
+  laid_all : (n : ℕ) → length s ≡ 257 → Plain s len (get_or chunk at 0) → len + n ≤ 256 → at + n ≤ length chunk → ((k : ℕ) → k < n → get_or chunk (at + k) 0 ≡ 10 → ⊥)
+      → Laid s len chunk at n (paste s len (drop at chunk) n)
+  laid_all zero full p room more other = rw (← paste-zero s len (drop at chunk)) (laid_none p)
+  laid_all (suc n) full p room more other =
+      let l = laid_byte full (laid_all n full p (omega arith) (omega arith) (λ k h. other k (omega arith))) (omega arith) (omega arith) (other n (omega arith)) in
+      let step = paste-suc s len (drop at chunk) n 0 (omega arith) (omega (arith, length-drop at chunk)) in
+      rw (← step, get_or-drop at chunk n 0, ← add-one n) l
 
-    pub laid_next : (n : ℕ) {now : List ℕ} → n < most → Laid s len chunk at most n now → Laid s len chunk at most (n + 1) (set now (len + n) (get_or chunk (at + n) 0))
-    laid_next n more l = laid_byte l more (k.none n more)
-
-  -- the room that is left
-  pub laid_room : {n m : ℕ} {t : List ℕ} → Laid s len chunk at most n t → m ≤ most - n → Room t (len + n) chunk (at + n) m
-  laid_room {n} {m} {t} l h = record { long = l.filled.long ∙ r.long; fits = omega arith; some = omega arith; plain = l.plain }
-
-  pub laid_join : {n m k : ℕ} {t u : List ℕ} → Laid s len chunk at most n t → m ≤ most - n → Laid t (len + n) chunk (at + n) m k u → Laid s len chunk at most (n + k) u
-  laid_join {n} {m} {k} {t} {u} f h g =
-      let e : at + (n + k) ≡ at + n + k = omega arith in
-      let z : len + (n + k) ≡ len + n + k = omega arith in
-      record {
-        within = omega arith;
-        filled = record { few = omega arith; fits = omega arith; long = g.filled.long ∙ f.filled.long; on = rw (e, z) (f.filled.on ∙ g.filled.on) };
-        plain = rw (e, z) g.plain;
-      }
+  -- the bytes before the first LF of those that have room
+  pub filled_to : {rest after : List ℕ} {most n e : ℕ} → length s ≡ 257 → Plain s len (get_or chunk at 0) → len ≤ 256 → at ≤ length chunk → rest ≡ drop at chunk → most ≡ min (length rest) (256 - len)
+      → (n ≤ length (take most rest)) × ((k : ℕ) → k < n → get_or (take most rest) k 0 ≡ 10 → ⊥) → LayKeeps (take n (take most rest)) len s e after → Filled s len chunk at n after
+  filled_to {rest} {after} {most} {n} {e} full p room more rest_is most_is is lays =
+      let d_long : length rest ≡ length chunk - at = ap length rest_is ∙ length-drop at chunk in
+      let size : length (take most rest) ≡ most = length-take-le most rest (omega arith) in
+      let few : n ≤ most = omega (arith, is.0) in
+      let other : (k : ℕ) → k < n → get_or chunk (at + k) 0 ≡ 10 → ⊥ =
+      λ k h e. is.1 k h (get_or-take most rest k 0 (omega arith) ∙ ap (λ (l : List ℕ). get_or l k 0) rest_is ∙ get_or-drop at chunk k 0 ∙ e) in
+      let piece : take n (take most rest) ≡ take n (drop at chunk) = take-take n most rest few ∙ ap (take n) rest_is in
+      let long : length (take n (take most rest)) ≡ n = length-take-le n (take most rest) is.0 in
+      let laid : after ≡ paste s len (drop at chunk) n =
+      whole_holds (take n (take most rest)) len s e after (omega arith) lays
+      ∙ ap (λ (m : ℕ). take len s ++ take n (take most rest) ++ drop (len + m) s) long
+      ∙ ap (λ (l : List ℕ). take len s ++ l ++ drop (len + n) s) piece in
+      rw laid (laid_all n full p (omega arith) (omega arith) other).filled

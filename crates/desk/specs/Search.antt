@@ -25,27 +25,10 @@ pub record Filled (bytes : List ℕ) (len : ℕ) (chunk : List ℕ) (at n : ℕ)
   pub long : length after ≡ length bytes
   pub on : found_after at (tray_of bytes len) (drop at chunk) ≡ found_after (at + n) (tray_of after (len + n)) (drop (at + n) chunk)
 
--- no LF among n bytes of s from at on
-pub record Clear (s : List ℕ) (at n : ℕ) : Type 0 where
-  pub none : (k : ℕ) → k < n → get_or s (at + k) 0 ≡ 10 → ⊥
-
 -- b behind the first len of the bytes is no part of a prompt, nor is any byte after it: the line's first byte is no '>', or it is too late for one
 pub record Plain (bytes : List ℕ) (len b : ℕ) : Type 0 where
   pub first : len ≡ 0 → b ≡ 62 → ⊥
   pub second : len ≡ 1 → get_or bytes 0 0 ≡ 62 → ⊥
-
--- n bytes of chunk from at on have room behind the first len of the bytes, and none of them can make a prompt
-pub record Room (bytes : List ℕ) (len : ℕ) (chunk : List ℕ) (at n : ℕ) : Type 0 where
-  pub long : length bytes ≡ 257
-  pub fits : len + n ≤ 256
-  pub some : at + n ≤ length chunk
-  pub plain : Plain bytes len (get_or chunk at 0)
-
--- n bytes, of the most that had room, are held, and no prompt can come of the next either
-pub record Laid (bytes : List ℕ) (len : ℕ) (chunk : List ℕ) (at most n : ℕ) (after : List ℕ) : Type 0 where
-  pub within : n ≤ most
-  pub filled : Filled bytes len chunk at n after
-  pub plain : Plain after (len + n) (get_or chunk (at + n) 0)
 
 -- r says whether a line of len bytes is past its length with b
 pub record Past (len b : ℕ) (r : Bool) : Type 0 where

@@ -1,12 +1,12 @@
 // Cutting a modem's bytes into lines, with no array copied.
-ghost use Rattle.std.specs.Prelude.{◌≡◌, false, [], ◌∷◌, ◌++◌, ◌+◌, ◌≤◌, length, take};
+ghost use Rattle.std.specs.Prelude.{ℕ, ◌≡◌, false, [], ◌∷◌, ◌++◌, ◌≤◌, ◌<◌, length, take, slice_index};
 ghost use Rattle.desk.specs.Cut.{bare, is_prompt, cut_one};
 ghost use Rattle.desk.specs.Lines.{line_of};
 ghost use Rattle.desk.specs.Desk.{view_of, buffered};
-ghost use Rattle.desk.specs.Search.{tray_of, found_after, Filled, Clear, Plain, Room, Laid, Past};
+ghost use Rattle.desk.specs.Search.{tray_of, found_after, Filled, Plain, Past};
 ghost use Rattle.desk.specs.Says.{found_line, pushed_says, found_says};
 
-use text::bytes;
+use text::{bytes, copy};
 
 // What ends a feed: a line past its length, or the first bytes of the buffer, so many.
 #[derive(Clone, Copy)]
@@ -105,93 +105,6 @@ fn push(line: &mut [u8; 257], len: usize, b: u8) -> Pushed
     }
 }
 
-// Whether an LF is among four bytes of chunk from at on. With no branch between them they are looked at together.
-fn ends_in_four(chunk: &[u8], at: usize) -> bool
-    requires { at + 4 ≤ length chunk.now }
-    ensures { result ≡ false → Clear chunk.now at 4 }
-{
-    (chunk[at] == 10) | (chunk[at + 1] == 10) | (chunk[at + 2] == 10) | (chunk[at + 3] == 10)
-}
-
-// The same of eight.
-fn ends_in_eight(chunk: &[u8], at: usize) -> bool
-    requires { at + 8 ≤ length chunk.now }
-    ensures { result ≡ false → Clear chunk.now at 8 }
-{
-    ends_in_four(chunk, at) | ends_in_four(chunk, at + 4)
-}
-
-// Lays eight bytes of chunk from at on behind the len that are held, or none if an LF is among them, and says how many.
-// All are read before the first is laid, since this compiler is not told that line and chunk are apart.
-fn eight(line: &mut [u8; 257], len: usize, chunk: &[u8], at: usize) -> usize
-    requires { Room line.old len chunk.now at 8 }
-    ensures { Laid line.old len chunk.now at 8 result line.new }
-{
-    if ends_in_eight(chunk, at) {
-        return 0;
-    }
-    let a = chunk[at];
-    let b = chunk[at + 1];
-    let c = chunk[at + 2];
-    let d = chunk[at + 3];
-    let e = chunk[at + 4];
-    let f = chunk[at + 5];
-    let g = chunk[at + 6];
-    let h = chunk[at + 7];
-    line[len] = a;
-    line[len + 1] = b;
-    line[len + 2] = c;
-    line[len + 3] = d;
-    line[len + 4] = e;
-    line[len + 5] = f;
-    line[len + 6] = g;
-    line[len + 7] = h;
-    8
-}
-
-// Lays the most bytes of chunk from at on, eight at a time, up to eight with an LF among them or fewer than eight, and says how many.
-fn eights(line: &mut [u8; 257], len: usize, chunk: &[u8], at: usize, most: usize) -> usize
-    requires { Room line.old len chunk.now at most }
-    ensures { Laid line.old len chunk.now at most result line.new }
-{
-    let mut n = 0;
-    while most - n >= 8 {
-        let k = eight(line, len + n, chunk, at + n);
-        n += k;
-        if k < 8 {
-            return n;
-        }
-    }
-    n
-}
-
-// The same byte by byte, up to an LF.
-fn ones(line: &mut [u8; 257], len: usize, chunk: &[u8], at: usize, most: usize) -> usize
-    requires { Room line.old len chunk.now at most }
-    ensures { Laid line.old len chunk.now at most result line.new }
-{
-    let mut n = 0;
-    while n < most {
-        let b = chunk[at + n];
-        if b == 10 {
-            return n;
-        }
-        line[len + n] = b;
-        n += 1;
-    }
-    n
-}
-
-// Both: up to an LF or to the most.
-fn run(line: &mut [u8; 257], len: usize, chunk: &[u8], at: usize, most: usize) -> usize
-    requires { Room line.old len chunk.now at most }
-    ensures { Laid line.old len chunk.now at most result line.new }
-{
-    let n = eights(line, len, chunk, at, most);
-    let rest = ones(line, len + n, chunk, at + n, most - n);
-    n + rest
-}
-
 // Whether b may be part of a prompt: it or the one byte that is held is '>'.
 fn may_prompt(line: &[u8; 257], len: usize, b: u8) -> bool
     ensures { result ≡ false → Plain line.now len b }
@@ -203,6 +116,14 @@ fn may_prompt(line: &[u8; 257], len: usize, b: u8) -> bool
     }
 }
 
+// How many bytes stand before the first LF, all of them where there is none.
+fn before_lf(s: &[u8]) -> usize
+    ensures few { result ≤ length s.now }
+    ensures clear { (k : ℕ) → k < result → slice_index s.now k ≡ 10 → ⊥ }
+{
+    memchr::memchr(b'\n', s).unwrap_or(s.len())
+}
+
 // Lays the bytes of chunk from at on behind the len that are held, up to an LF, the 256th byte or the chunk's end, and says how many.
 // None where a prompt may come of them: its bytes go one by one.
 fn fill(line: &mut [u8; 257], len: usize, chunk: &[u8], at: usize) -> usize
@@ -211,8 +132,11 @@ fn fill(line: &mut [u8; 257], len: usize, chunk: &[u8], at: usize) -> usize
     if len > 255 || at >= chunk.len() || may_prompt(line, len, chunk[at]) {
         return 0;
     }
-    let most = (chunk.len() - at).min(256 - len);
-    run(line, len, chunk, at, most)
+    let rest = &chunk[at..];
+    let part = &rest[..rest.len().min(256 - len)];
+    let n = before_lf(part);
+    let _end = copy::lay(&part[..n], len, line);
+    n
 }
 
 // The search stops at the first byte that stops a feed; the count taken runs through that byte, or is the whole chunk.

@@ -73,6 +73,7 @@ fn respond(command: Option<Awaits>, kind: ResponseKind) -> Judged
 }
 
 // The first row that fits decides.
+#[tactic(auto, using(crate::proofs::Judging::table_unsolicited), unfolding(crate::specs::Judge::table))]
 pub(crate) fn judge(command: Option<Awaits>, sort: Result<Sort, Refusal>) -> Judged
     ensures { ruling_says result ≡ table (command_says command) (sort_says sort) }
 {
