@@ -98,14 +98,14 @@ impl Decimal {
     {
         let mut number: u64 = 0;
         let mut count: usize = 0;
-        // where the digits behind the point begin, once it was read
-        let mut back: Option<usize> = None;
-        for (i, &c) in text.iter().enumerate() {
+        // how many stand before the point, once it was read
+        let mut front: Option<usize> = None;
+        for &c in text {
             if c == b'.' {
-                if back.is_some() {
+                if front.is_some() {
                     return None;
                 }
-                back = Some(i + 1);
+                front = Some(count);
             } else {
                 if !digit::is_ascii_digit(c) {
                     return None;
@@ -120,8 +120,8 @@ impl Decimal {
         if count == 0 {
             return None;
         }
-        let places = match back {
-            Some(start) => text.len() - start,
+        let places = match front {
+            Some(front) => count - front,
             None => 0,
         };
         Some(Decimal {

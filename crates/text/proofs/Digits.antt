@@ -1,6 +1,6 @@
 -- Digits read one by one give the plain value of all of them, in every base up to 16 and under every bound. The loop keeps the value n of the
 -- digits passed: the text's magnitude is what n gives with the digits that are left.
-use Rattle.std.proofs.Common.{◌≡◌, ℕ, suc, ◌+◌, ◌-◌, ◌*◌, ◌/◌, ◌^◌, ◌<◌, ◌≤◌, Bool, true, false, cond, ◌&&◌, ltb, leb, List, ◌∷◌, length, get_or, drop, sym, refl, ap, ◌∙◌, mul_assoc, div-lt_iff_lt-mul, add-mul, mul-le-mul_left, le-div_iff_mul-le, zero-mul, mul-one, arith, ltb-false, le-ltb, lt-ltb, le-leb, leb-true}
+use Rattle.std.proofs.Common.{◌≡◌, ℕ, suc, ◌+◌, ◌-◌, ◌*◌, ◌/◌, ◌^◌, ◌<◌, ◌≤◌, Bool, true, false, cond, ◌&&◌, leb, List, [], ◌∷◌, length, get_or, drop, sym, refl, ap, ◌∙◌, mul_assoc, div-lt_iff_lt-mul, add-mul, mul-le-mul_left, le-div_iff_mul-le, zero-mul, mul-one, arith, le-ltb, lt-ltb, le-leb, leb-true}
 use mathlib.Core.Option.{Option, none, some}
 use native.Mathlib.Nat.{pow-zero, pow-succ', one-le-pow}
 use borrow.Author.Tests.{lt-leb}
@@ -23,18 +23,16 @@ module _ (x : ℕ) where
       by true false h k = refl
       by false b h k = refl
 
-  pub digit_09 : (r : ℕ) (t : Bool) → t ≡ is_digit x → t ≡ true → r ≡ above_zero x → below 16 (some r) ≡ digit_value x
-  digit_09 r t told h e =
-      let is : is_digit x ≡ true = sym told ∙ h in
-      rw (e, value_is x is, lt-ltb (above_zero x) 16 (omega (arith, to_nine x is)))
+  pub digit_09 : (r : ℕ) (t : Bool) → t ≡ is_digit x → t ≡ true → r ≡ above_zero x → some r ≡ digit_value x
+  digit_09 r t told h e = rw (e, value_is x (sym told ∙ h))
 
-  pub digit_capital : 65 ≤ x → x ≤ 70 → below 16 (some (x - 55)) ≡ digit_value x
+  pub digit_capital : 65 ≤ x → x ≤ 70 → some (x - 55) ≡ digit_value x
   unfolding digit_value
-  digit_capital h k = rw (off_range 48 57 (λ a b. omega arith), in_range 65 70 h k, lt-ltb (x - 55) 16 (omega arith))
+  digit_capital h k = rw (off_range 48 57 (λ a b. omega arith), in_range 65 70 h k)
 
-  pub digit_small : 97 ≤ x → x ≤ 102 → below 16 (some (x - 87)) ≡ digit_value x
+  pub digit_small : 97 ≤ x → x ≤ 102 → some (x - 87) ≡ digit_value x
   unfolding digit_value
-  digit_small h k = rw (off_range 48 57 (λ a b. omega arith), off_range 65 70 (λ a b. omega arith), in_range 97 102 h k, lt-ltb (x - 87) 16 (omega arith))
+  digit_small h k = rw (off_range 48 57 (λ a b. omega arith), off_range 65 70 (λ a b. omega arith), in_range 97 102 h k)
 
   pub told_no : (t : Bool) → t ≡ is_digit x → t ≡ false → is_digit x ≡ false
   told_no t told n = sym told ∙ n
@@ -42,14 +40,6 @@ module _ (x : ℕ) where
   pub no_digit : is_digit x ≡ false → (65 ≤ x → x ≤ 70 → ⊥) → (97 ≤ x → x ≤ 102 → ⊥) → none ≡ digit_value x
   unfolding digit_value
   no_digit e g h = rw (e, off_range 65 70 g, off_range 97 102 h)
-
--- a digit's worth, of the bases up to 16
-below_16 : (base r : ℕ) (t : Bool) → ltb r 16 ≡ t → base ≤ 16 → below base (cond t (some r) none) ≡ below base (some r)
-below_16 base r true e h = refl
-below_16 base r false e h = let k : 16 ≤ r = ltb-false _ _ e in rw (le-ltb r base (omega arith))
-
-digit_in : (base r x : ℕ) → base ≤ 16 → below 16 (some r) ≡ digit_value x → below base (digit_value x) ≡ below base (some r)
-digit_in base r x h e = rw (sym e) (below_16 base r (ltb r 16) refl h)
 
 -- the digits of base 10: which bytes they are, and what each is worth
 pub decimal_is : (x : ℕ) → is_digit x ≡ true → below 10 (digit_value x) ≡ some (above_zero x)
@@ -99,14 +89,15 @@ more_start base max (some d) (some ds) =
     ap (up_to max) p
 
 -- `magnitude`: before the loop
-pub digits_none : (base max from : ℕ) (s : List ℕ) → length s ≤ from → none ≡ magnitude base max (drop from s)
+pub digits_none : (base max : ℕ) (s : List ℕ) → length s ≡ 0 → none ≡ magnitude base max s
 unfolding magnitude digits_of
-digits_none base max from s h = rw (at_end s from h)
+digits_none base max [] h = refl
+digits_none base max (x ∷ s) h = absurd (omega arith)
 
-pub digits_start : (base max from : ℕ) (s : List ℕ) → from < length s → magnitude base max (drop from s) ≡ rest base max 0 (drop from s)
+pub digits_start : (base max : ℕ) (s : List ℕ) → (length s ≡ 0 → ⊥) → magnitude base max s ≡ rest base max 0 s
 unfolding magnitude digits_of rest
-digits_start base max from s h =
-    rw (at_next s from h) (more_start base max (below base (digit_value (get_or s from 0))) (digits_of base (drop (from + 1) s)))
+digits_start base max [] h = absurd (h refl)
+digits_start base max (x ∷ s) h = more_start base max (below base (digit_value x)) (digits_of base s)
 
 -- the next value passes max neither before nor after its digit is added
 pub times_le : (base max n : ℕ) → 1 ≤ base → n ≤ max / base → n * base ≤ max
@@ -116,31 +107,32 @@ pub next_le : (base max n d : ℕ) → 1 ≤ base → n ≤ max / base → d ≤
 next_le base max n d h k l = let p : n * base ≤ max = times_le base max n h k in omega arith
 
 -- a turn of the loop
-module _ (base max from i n d : ℕ) (s : List ℕ) (b : (1 ≤ base) × (base ≤ 16)) (inv : magnitude base max (drop from s) ≡ rest base max n (drop i s)) (h : i < length s) (is : below 16 (some d) ≡ digit_value (get_or s i 0)) where
-  pub digits_turn : d < base → magnitude base max (drop from s) ≡ rest base max (n * base + d) (drop (i + 1) s)
+module _ (base max i n : ℕ) (s : List ℕ) (inv : magnitude base max s ≡ rest base max n (drop i s)) (h : i < length s) where
+  pub digits_miss : none ≡ digit_value (get_or s i 0) → none ≡ magnitude base max s
   unfolding rest digits_of
-  digits_turn k =
-      let e : below base (digit_value (get_or s i 0)) ≡ some d = digit_in base d _ b.1 is ∙ rw (lt-ltb _ _ k) in
-      rw (inv, at_next s i h, e) (more_turn base max n d (digits_of base (drop (i + 1) s)))
+  digits_miss is = rw (inv, at_next s i h, sym is)
 
-  past : d < base → max < n * base + d → none ≡ magnitude base max (drop from s)
-  unfolding rest
-  past k m = rw (digits_turn k) (more_past base max (n * base + d) (digits_of base (drop (i + 1) s)) b.0 m)
+  module _ (d : ℕ) (b : 1 ≤ base) (is : some d ≡ digit_value (get_or s i 0)) where
+    pub digits_turn : d < base → magnitude base max s ≡ rest base max (n * base + d) (drop (i + 1) s)
+    unfolding rest digits_of
+    digits_turn k = rw (inv, at_next s i h, sym is, lt-ltb _ _ k) (more_turn base max n d (digits_of base (drop (i + 1) s)))
 
-  pub digits_bad : base ≤ d → none ≡ magnitude base max (drop from s)
-  unfolding rest digits_of
-  digits_bad k =
-      let e : below base (digit_value (get_or s i 0)) ≡ none = digit_in base d _ b.1 is ∙ rw (le-ltb _ _ k) in
-      rw (inv, at_next s i h, e)
+    past : d < base → max < n * base + d → none ≡ magnitude base max s
+    unfolding rest
+    past k m = rw (digits_turn k) (more_past base max (n * base + d) (digits_of base (drop (i + 1) s)) b m)
 
-  pub digits_over : d < base → max / base < n → none ≡ magnitude base max (drop from s)
-  digits_over k m = let p : max < n * base = (div-lt_iff_lt-mul b.0).0 m in past k (omega arith)
+    pub digits_bad : base ≤ d → none ≡ magnitude base max s
+    unfolding rest digits_of
+    digits_bad k = rw (inv, at_next s i h, sym is, le-ltb _ _ k)
 
-  pub digits_over' : d < base → max - n * base < d → none ≡ magnitude base max (drop from s)
-  digits_over' k m = past k (omega arith)
+    pub digits_over : d < base → max / base < n → none ≡ magnitude base max s
+    digits_over k m = let p : max < n * base = (div-lt_iff_lt-mul b).0 m in past k (omega arith)
 
-pub digits_end : (base max from i n : ℕ) (s : List ℕ) → n ≤ max → magnitude base max (drop from s) ≡ rest base max n (drop i s) → length s ≤ i → some n ≡ magnitude base max (drop from s)
+    pub digits_over' : d < base → max - n * base < d → none ≡ magnitude base max s
+    digits_over' k m = past k (omega arith)
+
+pub digits_end : (base max i n : ℕ) (s : List ℕ) → n ≤ max → magnitude base max s ≡ rest base max n (drop i s) → length s ≤ i → some n ≡ magnitude base max s
 unfolding rest digits_of value_of
-digits_end base max from i n s k inv h =
+digits_end base max i n s k inv h =
     let p : n * base ^ 0 + 0 ≡ n = rw (pow-zero, mul-one) (omega arith) in
     rw (inv, at_end s i h, p, le-leb _ _ k)

@@ -8,7 +8,7 @@ use Rattle.text.proofs.Tests.{never}
 use Rattle.text.specs.Bytes.{same, has}
 use Rattle.text.specs.Part.{before, after, trimmed}
 use Rattle.text.specs.Field.{fields, nth}
-use Rattle.text.specs.Reading.{Reading, read, refused, refusal_in, present, only, either, need, need_else, sized, fitting, mapped, each, worse, first_of}
+use Rattle.text.specs.Reading.{Reading, read, refused, refusal_in, present, only, either, need_else, sized, fitting, mapped, each, worse, first_of}
 use Rattle.text.specs.says.Refusal.{number_of, option_mapped, reading_said}
 use Rattle.text.specs.declared.refusal.Refusal.{Refusal}
 

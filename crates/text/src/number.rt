@@ -1,64 +1,77 @@
 // Whole numbers, one reader per width over one reader of digits.
-ghost use Rattle.std.specs.Prelude.{◌≡◌, ◌≤◌, ℕ, drop};
-ghost use Rattle.std.proofs.Math.Option.{some};
-ghost use Rattle.text.specs.Number.{digit_value, below, magnitude, unsigned, negative, signed};
+ghost use Rattle.std.specs.Prelude.{◌≡◌, ◌≤◌, ℕ};
+ghost use Rattle.text.specs.Number.{digit_value, magnitude, unsigned, negative, signed};
+ghost use Rattle.text.specs.says.Number.{base_number};
 ghost use Rattle.text.specs.says.Refusal.{option_mapped, ParsedKeeps};
 
-use crate::{bytes, digit};
+use crate::{bytes, digit, part};
 
-// What a hexadecimal digit is worth, 16 where the byte is none.
-fn digit_value(x: u8) -> u8
-    ensures { below 16 (some result) ≡ digit_value x }
-{
-    if digit::is_ascii_digit(x) {
-        return digit::value(x);
-    }
-    match x {
-        b'A'..=b'F' => x - 55,
-        b'a'..=b'f' => x - 87,
-        _ => 16,
+// The bases in which a line has numbers.
+#[derive(Clone, Copy)]
+enum Base {
+    Decimal = 10,
+    Hexadecimal = 16,
+}
+
+impl Base {
+    fn number(self) -> u64
+        ensures { (result ≡ base_number self) × (1 ≤ result) }
+    {
+        self as u64
     }
 }
 
-// The number of at most max whose digits are the bytes from `from` on.
-fn magnitude(s: &[u8], from: usize, base: u64, max: u64) -> Option<u64>
-    requires { (1 ≤ base) × (base ≤ 16) }
-    ensures { ParsedKeeps (magnitude base max (drop from s.now)) result }
+// What a hexadecimal digit is worth.
+fn digit_value(x: u8) -> Option<u8>
+    ensures { ParsedKeeps (digit_value x) result }
 {
-    if s.len() <= from {
+    if digit::is_ascii_digit(x) {
+        return Some(digit::value(x));
+    }
+    match x {
+        b'A'..=b'F' => Some(x - 55),
+        b'a'..=b'f' => Some(x - 87),
+        _ => None,
+    }
+}
+
+// The number of at most max whose digits the bytes are.
+fn magnitude(s: &[u8], base: Base, max: u64) -> Option<u64>
+    ensures { ParsedKeeps (magnitude (base_number base) max s.now) result }
+{
+    if s.is_empty() {
         return None;
     }
-    let limit = max / base;
-    let mut i = from;
+    let radix = base.number();
+    let limit = max / radix;
     let mut n: u64 = 0;
-    while i < s.len() {
-        let d = digit_value(s[i]) as u64;
-        if base <= d {
+    for x in s {
+        let d = u64::from(digit_value(*x)?);
+        if radix <= d {
             return None;
         }
-        // n * base must not pass max
+        // n * radix must not pass max
         if limit < n {
             return None;
         }
-        let m = n * base;
+        let m = n * radix;
         if max - m < d {
             return None;
         }
         n = m + d;
-        i += 1;
     }
     Some(n)
 }
 
 // The same after an optional plus.
-fn unsigned(s: &[u8], base: u64, max: u64) -> Option<u64>
-    requires { (1 ≤ base) × (base ≤ 16) }
-    ensures { ParsedKeeps (unsigned base max s.now) result }
+#[tactic(auto, unfolding(crate::specs::Number::unsigned))]
+fn unsigned(s: &[u8], base: Base, max: u64) -> Option<u64>
+    ensures { ParsedKeeps (unsigned (base_number base) max s.now) result }
 {
-    if bytes::byte_at(s, 0) == b'+' {
-        return magnitude(s, 1, base, max);
+    if bytes::starts_with(s, b"+") {
+        return magnitude(part::skip(s, 1), base, max);
     }
-    magnitude(s, 0, base, max)
+    magnitude(s, base, max)
 }
 
 // A type that a number of up to its greatest fits.
@@ -123,9 +136,8 @@ impl Width for u64 {
 }
 
 // An unsigned number that fits the type.
-fn parse<T: Width>(s: &[u8], base: u64) -> Option<T>
-    requires { (1 ≤ base) × (base ≤ 16) }
-    ensures { option_mapped T.value result ≡ unsigned base T.MAX s.now }
+fn parse<T: Width>(s: &[u8], base: Base) -> Option<T>
+    ensures { option_mapped T.value result ≡ unsigned (base_number base) T.MAX s.now }
 {
     match unsigned(s, base, T::MAX) {
         Some(n) => Some(T::narrow(n)),
@@ -136,37 +148,37 @@ fn parse<T: Width>(s: &[u8], base: u64) -> Option<T>
 pub fn parse_u8(s: &[u8]) -> Option<u8>
     ensures { ParsedKeeps (unsigned 10 255 s.now) result }
 {
-    parse(s, 10)
+    parse(s, Base::Decimal)
 }
 
 pub fn parse_u16(s: &[u8]) -> Option<u16>
     ensures { ParsedKeeps (unsigned 10 65535 s.now) result }
 {
-    parse(s, 10)
+    parse(s, Base::Decimal)
 }
 
 pub fn parse_u32(s: &[u8]) -> Option<u32>
     ensures { ParsedKeeps (unsigned 10 4294967295 s.now) result }
 {
-    parse(s, 10)
+    parse(s, Base::Decimal)
 }
 
 pub fn parse_u64(s: &[u8]) -> Option<u64>
     ensures { ParsedKeeps (unsigned 10 18446744073709551615 s.now) result }
 {
-    parse(s, 10)
+    parse(s, Base::Decimal)
 }
 
 pub fn parse_hex_u16(s: &[u8]) -> Option<u16>
     ensures { ParsedKeeps (unsigned 16 65535 s.now) result }
 {
-    parse(s, 16)
+    parse(s, Base::Hexadecimal)
 }
 
 pub fn parse_hex_u32(s: &[u8]) -> Option<u32>
     ensures { ParsedKeeps (unsigned 16 4294967295 s.now) result }
 {
-    parse(s, 16)
+    parse(s, Base::Hexadecimal)
 }
 
 // -m, formed below zero, where the least i32 has a place.
@@ -183,14 +195,8 @@ fn negative(m: u64) -> i32
 pub fn parse_i32(s: &[u8]) -> Option<i32>
     ensures { ParsedKeeps (signed 10 2147483647 s.now) result }
 {
-    if bytes::byte_at(s, 0) == b'-' {
-        return match magnitude(s, 1, 10, 2147483648) {
-            Some(m) => Some(negative(m)),
-            None => None,
-        };
+    if bytes::starts_with(s, b"-") {
+        return Some(negative(magnitude(part::skip(s, 1), Base::Decimal, 2147483648)?));
     }
-    match unsigned(s, 10, 2147483647) {
-        Some(n) => Some(n as i32),
-        None => None,
-    }
+    Some(unsigned(s, Base::Decimal, 2147483647)? as i32)
 }

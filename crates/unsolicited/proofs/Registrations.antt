@@ -3,7 +3,7 @@ use mathlib.Core.Path.{◌≡◌, refl, sym, ap, ◌∙◌}
 use mathlib.Core.Bool.{Bool, true, false, cond, ◌&&◌, ◌||◌, or_self_left, or-false, or_assoc}
 use mathlib.Core.List.{List, [], ◌∷◌}
 use mathlib.Core.Option.{Option, none, some}
-use Prim.Native.Nat.{ℕ, ◌≤◌, ◌<◌}
+use Prim.Native.Nat.{ℕ, ◌+◌, ◌≤◌, ◌<◌}
 use native.Mathlib.Omega.{arith}
 use lib.Dec.{eqb, leb}
 use lib.IntN.{ℤ, pos, negsuc}
@@ -12,25 +12,42 @@ use mir.Syntax.{w32}
 use mir.Val.{SFits, of_z, to_z}
 use Rattle.std.specs.Prelude as Std
 use borrow.Author.Tests.{leb-true, le-leb, lt-ltb, le-ltb}
-use Rattle.text.specs.Bytes.{all_digits}
-use Rattle.text.specs.Part.{among}
+use Rattle.text.specs.Bytes.{bytes, starts_with, all_digits}
+use Rattle.text.specs.Part.{among, trimmed}
 use Rattle.text.specs.Field.{fields, nth}
-use Rattle.text.specs.Number.{signed}
+use Rattle.text.specs.Number.{unsigned, signed}
 use Rattle.text.specs.Reading.{Reading, read, refused, only, either, need, present, refusal_in}
-use Rattle.text.specs.says.Refusal.{option_said}
+use Rattle.text.specs.says.Refusal.{number_of, option_said}
+use Rattle.text.specs.declared.refusal.Refusal.{Refusal}
 use Rattle.text.proofs.Numbers.{read_signed, miss_signed}
 use Rattle.text.proofs.Readings.{via, accepts}
 use Rattle.unsolicited.specs.Places.{status_place}
-use Rattle.unsolicited.specs.Registration.{Registration, status_of, registration_at, registration_fields, creg_text, cgreg_text, cereg_status, cereg_fields, cereg_text}
+use Rattle.unsolicited.specs.Registration.{Registration, status_of, hex_in, registration_at, registration_fields, creg_text, cgreg_text, cereg_status, cereg_fields, cereg_text}
 use Rattle.text.proofs.Tests.{never}
 use Rattle.text.proofs.Yields.{yields_only, yields_either, yields_need}
+use Rattle.unsolicited.proofs.Stripped.{lacks, has}
 use Rattle.unsolicited.proofs.Trials.{Plain}
 
--- `status_of` tests the bits of its number
-pub status_is : (k : ℕ) (z : ℤ) → SFits w32 z → of_z w32 z ≡ k → 1 ≤ k → k ≤ 5 → k ≡ status_of z
+-- `status_of`: the five by their numbers, and every other
+pub first : status_of (pos 1) ≡ 1
 unfolding status_of
-status_is k (pos n) f e l h = rw (e, le-leb 1 k l, le-leb k 5 h)
-status_is k (negsuc n) f e l h = let b : n < 2147483648 = f.sfits in absurd (omega arith)
+first = refl
+
+pub second : status_of (pos 2) ≡ 2
+unfolding status_of
+second = refl
+
+pub third : status_of (pos 3) ≡ 3
+unfolding status_of
+third = refl
+
+pub fourth : status_of (pos 4) ≡ 4
+unfolding status_of
+fourth = refl
+
+pub fifth : status_of (pos 5) ≡ 5
+unfolding status_of
+fifth = refl
 
 pub status_other : (z : ℤ) → (of_z w32 z ≡ 1 → ⊥) → (of_z w32 z ≡ 2 → ⊥) → (of_z w32 z ≡ 3 → ⊥) → (of_z w32 z ≡ 4 → ⊥) → (of_z w32 z ≡ 5 → ⊥) → 0 ≡ status_of z
 unfolding status_of
@@ -42,6 +59,8 @@ status_other (pos n) a b c d e = go (leb 1 n) (leb n 5) (leb-true 1 n) (leb-true
     go true false l h = refl
     go true true l h = let i = l refl in let j = h refl in absurd (omega arith)
 
+pub ruleset by_number = (first, second, third, fourth, fifth, status_other)
+
 -- +CREG's longest has 5 fields
 five_twice : (n : ℕ) → among (2 ∷ 5 ∷ 5 ∷ []) n ≡ among (2 ∷ 5 ∷ []) n
 five_twice n = ap (λ (t : Bool). eqb n 2 || t) (or_self_left (eqb n 5) false)
@@ -49,6 +68,40 @@ five_twice n = ap (λ (t : Bool). eqb n 2 || t) (or_self_left (eqb n 5) false)
 pub fields_five : (fs : List (List ℕ)) → registration_fields (2 ∷ 5 ∷ 5 ∷ []) fs ≡ registration_fields (2 ∷ 5 ∷ []) fs
 unfolding registration_fields
 fields_five fs = rw (five_twice (length fs))
+
+-- each behind its prefix, which the line lacks or has
+module _ (s : List ℕ) where
+  pub creg_lacks : (k : Refusal) → starts_with (bytes "+CREG: ") s ≡ false → number_of k ≡ 3 → refused (number_of k) ≡ creg_text s
+  unfolding creg_text
+  creg_lacks k h n = ap refused n ∙ lacks _ _ h
+
+  pub creg_has : (t : List ℕ) (q : Reading Registration) → starts_with (bytes "+CREG: ") s ≡ true → t ≡ drop 7 s → q ≡ registration_fields (2 ∷ 5 ∷ 5 ∷ []) (fields 44 t) → q ≡ creg_text s
+  unfolding creg_text
+  creg_has t q h is e = has _ (λ u. registration_fields (2 ∷ 5 ∷ []) (fields 44 u)) t (drop 7 s) q h is (e ∙ fields_five (fields 44 t))
+
+  pub creg_lacks_alone : (k : Refusal) → starts_with (bytes "+CREG: ") s ≡ false → number_of k ≡ 3 → number_of k ≡ refusal_in (creg_text s)
+  creg_lacks_alone k h n = ap refusal_in (creg_lacks k h n)
+
+  pub creg_has_alone : (t : List ℕ) (n : ℕ) → starts_with (bytes "+CREG: ") s ≡ true → t ≡ drop 7 s → n ≡ refusal_in (registration_fields (2 ∷ 5 ∷ 5 ∷ []) (fields 44 t)) → n ≡ refusal_in (creg_text s)
+  creg_has_alone t n h is e = e ∙ ap refusal_in (creg_has t _ h is refl)
+
+  pub cgreg_lacks : (k : Refusal) → starts_with (bytes "+CGREG: ") s ≡ false → number_of k ≡ 3 → refused (number_of k) ≡ cgreg_text s
+  unfolding cgreg_text
+  cgreg_lacks k h n = ap refused n ∙ lacks _ _ h
+
+  pub cgreg_has : (t : List ℕ) (q : Reading Registration) → starts_with (bytes "+CGREG: ") s ≡ true → t ≡ drop 8 s → q ≡ registration_fields (2 ∷ 5 ∷ 8 ∷ []) (fields 44 t) → q ≡ cgreg_text s
+  unfolding cgreg_text
+  cgreg_has t q h is e = has _ (λ u. registration_fields (2 ∷ 5 ∷ 8 ∷ []) (fields 44 u)) t (drop 8 s) q h is e
+
+  pub cgreg_lacks_alone : (k : Refusal) → starts_with (bytes "+CGREG: ") s ≡ false → number_of k ≡ 3 → number_of k ≡ refusal_in (cgreg_text s)
+  cgreg_lacks_alone k h n = ap refusal_in (cgreg_lacks k h n)
+
+  pub cgreg_has_alone : (t : List ℕ) (n : ℕ) → starts_with (bytes "+CGREG: ") s ≡ true → t ≡ drop 8 s → n ≡ refusal_in (registration_fields (2 ∷ 5 ∷ 8 ∷ []) (fields 44 t)) → n ≡ refusal_in (cgreg_text s)
+  cgreg_has_alone t n h is e = e ∙ ap refusal_in (cgreg_has t _ h is refl)
+
+pub ruleset creg = (creg_lacks, creg_has, creg_lacks_alone, creg_has_alone)
+
+pub ruleset cgreg = (cgreg_lacks, cgreg_has, cgreg_lacks_alone, cgreg_has_alone)
 
 -- +CEREG: what the code has as o of the field that it chose, of k fields of which f is the first and g the second
 module _ (o : Option ℤ) (k : ℕ) (t : List ℕ) (count : k ≡ length (fields 44 t)) where
@@ -112,15 +165,28 @@ module _ (skipping : List ℕ) (fs : List (List ℕ)) (o : Std.Option ℕ) (k : 
   pub placed_at : (n : ℕ) → o ≡ Std.Some n → registration_at n fs ≡ registration_fields skipping fs
   placed_at n e = at_place skipping fs n (ap option_said (sym e) ∙ placed)
 
--- the refusal alone, by the code's answer o to the status: what is read beside it refuses nothing
+pub registry : (a x : ℕ) (b y c z : Option ℕ) → a ≡ x → b ≡ y → c ≡ z
+    → ◌≡◌ {A = Reading Registration} (read (record { status = a; lac = b; ci = c })) (read (record { status = x; lac = y; ci = z }))
+registry a x b y c z e f g = rw (e, f, g)
+
+-- `registration_at`, by the code's answer o to the status
 module _ (n : ℕ) (fs : List (List ℕ)) (t : List ℕ) (o : Std.Option ℤ) (said : option_said o ≡ signed 10 2147483647 t) (is : t ≡ nth n fs) where
   pub status_none : o ≡ Std.None → refused 3 ≡ registration_at n fs
   unfolding registration_at
   status_none e = miss_signed 10 t (nth n fs) o _ said is e
 
+  -- the refusal alone: what is read beside the status refuses nothing
   pub status_some : (z : ℤ) → o ≡ Std.Some z → 0 ≡ refusal_in (registration_at n fs)
   unfolding registration_at
   status_some z e = accepts _ _ (read_signed 10 t (nth n fs) o _ z _ said is e refl)
+
+  -- and with the answers a and c to the fields behind it, without their quotes
+  pub status_read : (z : ℤ) → o ≡ Std.Some z → (k : ℕ) → k ≡ status_of (to_z w32 (of_z w32 z))
+      → (u v : List ℕ) → u ≡ trimmed (bytes "\"") (nth (n + 1) fs) → v ≡ trimmed (bytes "\"") (nth (n + 2) fs)
+      → (a c : Option ℕ) → a ≡ unsigned 16 65535 u → c ≡ unsigned 16 4294967295 v → read (record { status = k; lac = a; ci = c }) ≡ registration_at n fs
+  unfolding registration_at hex_in
+  status_read z e k h u v ui vi a c ea ec =
+      read_signed 10 t (nth n fs) o _ z _ said is e (registry _ _ _ _ _ _ h (ea ∙ ap (unsigned 16 65535) ui) (ec ∙ ap (unsigned 16 4294967295) vi))
 
 -- +CEREG, by the code's answer o to its status
 module _ (fs : List (List ℕ)) (o : Std.Option ℤ) (said : option_said o ≡ signed 10 2147483647 (cereg_status fs)) where
@@ -131,10 +197,6 @@ module _ (fs : List (List ℕ)) (o : Std.Option ℤ) (said : option_said o ≡ s
   pub cereg_some : (z : ℤ) (k : ℕ) → o ≡ Std.Some z → k ≡ status_of (to_z w32 (of_z w32 z)) → read (record { status = k; lac = none; ci = none }) ≡ cereg_fields fs
   unfolding cereg_fields
   cereg_some z k e h = read_signed 10 (cereg_status fs) (cereg_status fs) o _ z _ said refl e (rw h)
-
-pub registry : (a x : ℕ) (b y c z : Option ℕ) → a ≡ x → b ≡ y → c ≡ z
-    → ◌≡◌ {A = Reading Registration} (read (record { status = a; lac = b; ci = c })) (read (record { status = x; lac = y; ci = z }))
-registry a x b y c z e f g = rw (e, f, g)
 
 -- no refusal but 3
 plain_at : (n : ℕ) (fs : List (List ℕ)) → Plain (registration_at n fs)

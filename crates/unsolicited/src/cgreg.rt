@@ -5,8 +5,8 @@ ghost use Rattle.text.specs.says.Refusal.{refusal_said};
 ghost use Rattle.unsolicited.specs.Registration.{cgreg_text};
 ghost use Rattle.unsolicited.specs.says.Registration.{says, RegistrationKeeps};
 
-use crate::network_registration;
 use crate::network_registration::NetworkRegistration;
+use crate::{network_registration, prefix};
 use text::line;
 use text::refusal::Refusal;
 
@@ -14,11 +14,12 @@ use text::refusal::Refusal;
 pub struct CGReg;
 
 impl CGReg {
-    #[tactic(auto, unfolding(crate::specs::Registration::cgreg_text))]
+    #[tactic(auto, using(crate::proofs::Registrations::cgreg))]
     pub(crate) fn from_checked(line: &[u8]) -> Result<NetworkRegistration, Refusal>
         ensures { says result ≡ cgreg_text line.now }
     {
-        network_registration::registration(line, b"+CGREG: ", 8)
+        let rest = prefix::behind(line, b"+CGREG: ")?;
+        network_registration::registration(rest, 8)
     }
 
     #[tactic(auto, using(crate::proofs::Stripped::checks))]
@@ -30,10 +31,11 @@ impl CGReg {
     }
 
     // The answer of `from_checked` with its value forgotten.
-    #[tactic(auto, unfolding(crate::specs::Registration::cgreg_text))]
+    #[tactic(auto, using(crate::proofs::Registrations::cgreg))]
     pub(crate) fn refusal_checked(line: &[u8]) -> Result<(), Refusal>
         ensures { refusal_said result ≡ refusal_in (cgreg_text line.now) }
     {
-        network_registration::refusal(line, b"+CGREG: ", 8)
+        let rest = prefix::behind(line, b"+CGREG: ")?;
+        network_registration::refusal(rest, 8)
     }
 }

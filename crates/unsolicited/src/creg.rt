@@ -5,8 +5,8 @@ ghost use Rattle.text.specs.says.Refusal.{refusal_said};
 ghost use Rattle.unsolicited.specs.Registration.{creg_text};
 ghost use Rattle.unsolicited.specs.says.Registration.{says, RegistrationKeeps};
 
-use crate::network_registration;
 use crate::network_registration::NetworkRegistration;
+use crate::{network_registration, prefix};
 use text::line;
 use text::refusal::Refusal;
 
@@ -14,11 +14,12 @@ use text::refusal::Refusal;
 pub struct CReg;
 
 impl CReg {
-    #[tactic(auto, using(crate::proofs::Registrations::fields_five), unfolding(crate::specs::Registration::creg_text))]
+    #[tactic(auto, using(crate::proofs::Registrations::creg))]
     pub(crate) fn from_checked(line: &[u8]) -> Result<NetworkRegistration, Refusal>
         ensures { says result ≡ creg_text line.now }
     {
-        network_registration::registration(line, b"+CREG: ", 5)
+        let rest = prefix::behind(line, b"+CREG: ")?;
+        network_registration::registration(rest, 5)
     }
 
     #[tactic(auto, using(crate::proofs::Stripped::checks))]
@@ -30,10 +31,11 @@ impl CReg {
     }
 
     // The answer of `from_checked` with its value forgotten.
-    #[tactic(auto, using(crate::proofs::Registrations::fields_five), unfolding(crate::specs::Registration::creg_text))]
+    #[tactic(auto, using(crate::proofs::Registrations::creg))]
     pub(crate) fn refusal_checked(line: &[u8]) -> Result<(), Refusal>
         ensures { refusal_said result ≡ refusal_in (creg_text line.now) }
     {
-        network_registration::refusal(line, b"+CREG: ", 5)
+        let rest = prefix::behind(line, b"+CREG: ")?;
+        network_registration::refusal(rest, 5)
     }
 }

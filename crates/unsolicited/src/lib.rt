@@ -21,7 +21,7 @@ use crate::ugnsinf::GnssReport;
 use text::refusal::Refusal;
 use text::{bytes, line};
 
-#[derive(Clone, Copy)]
+#[derive(Clone, Copy, Debug, PartialEq)]
 pub enum Urc {
     GnssReport(GnssReport),
     NetworkRegistration(NetworkRegistration),

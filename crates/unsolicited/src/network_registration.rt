@@ -1,17 +1,18 @@
 // The registration in the network: what +CREG, +CGREG and +CEREG share, and their trial.
-ghost use Rattle.std.specs.Prelude.{◌≡◌, [], ◌∷◌, ◌≤◌, length, drop, IfSome};
-ghost use Rattle.text.specs.Bytes.{starts_with};
+ghost use Rattle.std.specs.Prelude.{◌≡◌, [], ◌∷◌, ◌≤◌, IfSome};
+ghost use Rattle.text.specs.Bytes.{bytes};
 ghost use Rattle.text.specs.Field.{fields, nth};
-ghost use Rattle.text.specs.Reading.{only, refusal_in};
+ghost use Rattle.text.specs.Part.{trimmed};
+ghost use Rattle.text.specs.Reading.{refusal_in};
 ghost use Rattle.text.specs.says.Refusal.{option_said, refusal_said};
 ghost use Rattle.unsolicited.specs.Places.{status_place};
-ghost use Rattle.unsolicited.specs.Registration.{status_of, hex_in, registration_at, registration_fields, registration_text};
+ghost use Rattle.unsolicited.specs.Registration.{status_of, registration_at};
+ghost use Rattle.unsolicited.specs.Registration.{registration_fields, registration_text};
 ghost use Rattle.unsolicited.specs.says.Registration.{status_number, says, RegistrationKeeps};
 
 use crate::cereg::CEReg;
 use crate::cgreg::CGReg;
 use crate::creg::CReg;
-use crate::prefix;
 use text::refusal::Refusal;
 use text::{field, line, number, part, reader};
 
@@ -34,7 +35,7 @@ pub struct NetworkRegistration {
     pub ci: Option<u32>,
 }
 
-#[tactic(auto, using(crate::proofs::Registrations::status_other), unfolding(crate::specs::Registration::status_of))]
+#[tactic(auto, using(crate::proofs::Registrations::by_number))]
 pub(crate) fn status_of(n: i32) -> RegistrationStatus
     ensures { status_number result ≡ status_of n }
 {
@@ -48,22 +49,15 @@ pub(crate) fn status_of(n: i32) -> RegistrationStatus
     }
 }
 
-#[tactic(auto, unfolding(crate::specs::Registration::hex_in))]
-fn lac_at(rest: &[u8], n: usize) -> Option<u16>
-    ensures { option_said result ≡ hex_in 65535 (nth n (fields 44 rest.now)) }
+// Field n without its quotes.
+fn unquoted(rest: &[u8], n: usize) -> &[u8]
+    ensures { result.now ≡ trimmed (bytes "\"") (nth n (fields 44 rest.now)) }
 {
-    number::parse_hex_u16(part::trim(reader::nth_field(rest, n), b'"'))
-}
-
-#[tactic(auto, unfolding(crate::specs::Registration::hex_in))]
-fn ci_at(rest: &[u8], n: usize) -> Option<u32>
-    ensures { option_said result ≡ hex_in 4294967295 (nth n (fields 44 rest.now)) }
-{
-    number::parse_hex_u32(part::trim(reader::nth_field(rest, n), b'"'))
+    part::trim(reader::nth_field(rest, n), b'"')
 }
 
 // The status in field n, then lac and ci.
-#[tactic(auto, using(text::proofs::Numbers::numbers), unfolding(crate::specs::Registration::registration_at))]
+#[tactic(auto, using(crate::proofs::Registrations::status_none))]
 fn registration_at(rest: &[u8], n: usize) -> Result<NetworkRegistration, Refusal>
     requires { n ≤ 1 }
     ensures { says result ≡ registration_at n (fields 44 rest.now) }
@@ -71,8 +65,8 @@ fn registration_at(rest: &[u8], n: usize) -> Result<NetworkRegistration, Refusal
     let status = number::parse_i32(reader::nth_field(rest, n)).ok_or(Refusal::NotThisLine)?;
     Ok(NetworkRegistration {
         status: status_of(status),
-        lac: lac_at(rest, n + 1),
-        ci: ci_at(rest, n + 2),
+        lac: number::parse_hex_u16(unquoted(rest, n + 1)),
+        ci: number::parse_hex_u32(unquoted(rest, n + 2)),
     })
 }
 
@@ -92,26 +86,20 @@ fn status_place(count: usize, longest: usize) -> Option<usize>
     None
 }
 
-// Reads a line that begins with the prefix and has one to `longest` fields.
-pub(crate) fn registration(
-    line: &[u8],
-    prefix: &[u8],
-    longest: usize,
-) -> Result<NetworkRegistration, Refusal>
-    ensures { says result ≡ only (starts_with prefix.now line.now)
-        (registration_fields (2 ∷ 5 ∷ longest ∷ []) (fields 44 (drop (length prefix.now) line.now))) }
+// Reads what follows the prefix: one to `longest` fields.
+pub(crate) fn registration(rest: &[u8], longest: usize) -> Result<NetworkRegistration, Refusal>
+    ensures { says result ≡ registration_fields (2 ∷ 5 ∷ longest ∷ []) (fields 44 rest.now) }
 {
-    let rest = prefix::behind(line, prefix)?;
     let n = status_place(field::field_count(rest, b','), longest).ok_or(Refusal::NotThisLine)?;
     registration_at(rest, n)
 }
 
-// As `registration`, with every value forgotten: what is unreadable beside the status refuses nothing.
-pub(crate) fn refusal(line: &[u8], prefix: &[u8], longest: usize) -> Result<(), Refusal>
-    ensures { refusal_said result ≡ refusal_in (only (starts_with prefix.now line.now)
-        (registration_fields (2 ∷ 5 ∷ longest ∷ []) (fields 44 (drop (length prefix.now) line.now)))) }
+// As `registration`, with every value forgotten: what is unreadable beside the status refuses
+// nothing.
+pub(crate) fn refusal(rest: &[u8], longest: usize) -> Result<(), Refusal>
+    ensures { refusal_said result
+        ≡ refusal_in (registration_fields (2 ∷ 5 ∷ longest ∷ []) (fields 44 rest.now)) }
 {
-    let rest = prefix::behind(line, prefix)?;
     let n = status_place(field::field_count(rest, b','), longest).ok_or(Refusal::NotThisLine)?;
     number::parse_i32(reader::nth_field(rest, n)).ok_or(Refusal::NotThisLine)?;
     Ok(())

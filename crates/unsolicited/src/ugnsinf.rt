@@ -104,17 +104,14 @@ impl DateTime {
         ensures { DateKeeps time_string.now result }
     {
         let (text, fraction) = time_string.split_first_chunk::<14>()?;
-        if !bytes::all_digits(text) {
-            return None;
-        }
-        if !is_fraction(fraction) {
+        if !bytes::all_digits(text) || !is_fraction(fraction) {
             return None;
         }
         Digits { text }.date().existing_date()
     }
 }
 
-#[derive(Clone, Copy)]
+#[derive(Clone, Copy, Debug, PartialEq)]
 pub struct GnssFix {
     pub date_time: DateTime,
     pub latitude: f32,
@@ -131,7 +128,7 @@ pub struct GnssFix {
     pub signal_noise_ratio: u32,
 }
 
-#[derive(Clone, Copy)]
+#[derive(Clone, Copy, Debug, PartialEq)]
 pub enum GnssReport {
     NotEnabled,
     NoFix { sat_gps_view: Option<u32> },

@@ -4,7 +4,7 @@ use Rattle.text.proofs.Digits.{digit_09, digit_capital, digit_small, told_no, no
 use Rattle.text.proofs.number.digit_value.Goals as goal
 
 pub returns-then-is_ascii_digit : goal.returns-then-is_ascii_digit
-returns-then-is_ascii_digit c = search digit_09
+returns-then-is_ascii_digit c = digit_09 _ _ _ c.is_ascii_digit.ensures c.if-is_ascii_digit.true c.value.ensures
 
 pub returns-in-65-to-70 : goal.returns-in-65-to-70
 returns-in-65-to-70 c = digit_capital _ (omega arith) (omega arith)

@@ -1,33 +1,32 @@
-use Rattle.std.proofs.Common.{arith, Fits-le, rules}
-use Rattle.text.proofs.Digits.{digits_none, digits_start, digits_bad, digits_over, digits_over', digits_turn, digits_end, times_le, next_le}
+use Rattle.std.proofs.Common.{sym, arith, eqb-true}
+use borrow.Author.Tests.{eqb-false}
+use Rattle.text.proofs.Digits.{digits_none, digits_start, digits_miss, digits_bad, digits_over, digits_over', digits_turn, digits_end, next_le}
 use Rattle.text.proofs.number.magnitude.Goals as goal
 
-pub returns-then-s-from : goal.returns-then-s-from
-returns-then-s-from c = let a = c.args in digits_none a.base a.max a.from a.s.now (omega arith)
+pub returns-then-is_empty : goal.returns-then-is_empty
+returns-then-is_empty c = digits_none _ _ _ (eqb-true _ _ (sym c.if-is_empty.ensures))
 
-pub loop-i-init : goal.loop-i-init
-loop-i-init c = search (rules, digits_start)
+pub loop-x-init : goal.loop-x-init
+loop-x-init c = (omega arith, digits_start _ _ _ (eqb-false _ _ (sym c.if-is_empty.ensures)))
 
-pub returns-then-base-d : goal.returns-then-base-d
-returns-then-base-d c = search digits_bad
+pub returns-in_err-digit_value : goal.returns-in_err-digit_value
+returns-in_err-digit_value c =
+    rw (c.from_residual.ensures, ← c.number-radix.ensures.0) (digits_miss _ _ _ _ _ c.loop-x.invariant.1 (omega arith) c.in_err-digit_value.ensures)
+
+pub returns-then-radix-d : goal.returns-then-radix-d
+returns-then-radix-d c = rw (← c.number-radix.ensures.0) (digits_bad _ _ _ _ _ c.loop-x.invariant.1 (omega arith) _ c.number-radix.ensures.1 (rw (sym c.from-d.ensures) at c.in_ok-digit_value.ensures) (omega arith))
 
 pub returns-then-limit-n : goal.returns-then-limit-n
-returns-then-limit-n c = search digits_over
-
-pub overflow_mul-m : goal.overflow_mul-m
-overflow_mul-m c = search (Fits-le, times_le)
-
-pub overflow_sub-max : goal.overflow_sub-max
-overflow_sub-max c = search times_le
+returns-then-limit-n c = rw (← c.number-radix.ensures.0) (digits_over _ _ _ _ _ c.loop-x.invariant.1 (omega arith) _ c.number-radix.ensures.1 (rw (sym c.from-d.ensures) at c.in_ok-digit_value.ensures) (omega arith) (omega arith))
 
 pub returns-then-max-m : goal.returns-then-max-m
-returns-then-max-m c = search digits_over'
+returns-then-max-m c = rw (← c.number-radix.ensures.0) (digits_over' _ _ _ _ _ c.loop-x.invariant.1 (omega arith) _ c.number-radix.ensures.1 (rw (sym c.from-d.ensures) at c.in_ok-digit_value.ensures) (omega arith) (omega arith))
 
-pub overflow_add-n : goal.overflow_add-n
-overflow_add-n c = search (Fits-le, next_le)
-
-pub loop-i-preserved : goal.loop-i-preserved
-loop-i-preserved c = search (next_le, digits_turn)
+pub loop-x-preserved : goal.loop-x-preserved
+loop-x-preserved c = (
+  next_le _ _ _ _ c.number-radix.ensures.1 (omega arith) (omega arith),
+  digits_turn _ _ _ _ _ c.loop-x.invariant.1 (omega arith) _ c.number-radix.ensures.1 (rw (sym c.from-d.ensures) at c.in_ok-digit_value.ensures) (omega arith),
+)
 
 pub returns : goal.returns
-returns c = search digits_end
+returns c = rw (← c.number-radix.ensures.0) (digits_end _ _ _ _ _ c.loop-x.invariant.0 c.loop-x.invariant.1 (omega arith))
