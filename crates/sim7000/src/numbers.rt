@@ -19,10 +19,7 @@ fn command_in(n: u64) -> Option<Awaits>
         1..=13 => Some(Awaits::One(ResponseKind::at(n - 1))),
         14..=182 => {
             let m = n - 14;
-            Some(Awaits::Two(
-                ResponseKind::at(m / 13),
-                ResponseKind::at(m % 13),
-            ))
+            Some(Awaits::Two(ResponseKind::at(m / 13), ResponseKind::at(m % 13)))
         }
         _ => None,
     }
