@@ -18,12 +18,12 @@ use text::{field, line, number, part, reader};
 
 #[derive(Clone, Copy, Debug, PartialEq, Eq)]
 pub enum RegistrationStatus {
-    NotRegistered,
-    RegisteredHome,
-    Searching,
-    RegistrationDenied,
-    Unknown,
-    RegisteredRoaming,
+    NotRegistered = 0,
+    RegisteredHome = 1,
+    Searching = 2,
+    RegistrationDenied = 3,
+    Unknown = 4,
+    RegisteredRoaming = 5,
 }
 
 #[derive(Clone, Copy, Debug, PartialEq, Eq)]
