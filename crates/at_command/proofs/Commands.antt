@@ -1,31 +1,33 @@
 -- Every command: how it begins, how many bytes it has at most, and that they are printable up to the CR. And what a writer that gives one has found of its texts
 -- and its buffer. A modem with echo on sends these lines back, and no reader is to accept one (document 02, CR 4; trial/proofs/Commands.antt). Assumes nothing.
-use mathlib.Core.Path.{◌≡◌, refl, ◌∙◌}
+use mathlib.Core.Path.{◌≡◌, refl, sym, ◌∙◌}
 use mathlib.Core.Bool.{Bool, true, false, cond}
 use mathlib.Core.List.{List, [], ◌∷◌}
 use Prim.Native.Nat.{ℕ, ◌≤◌}
 use native.Mathlib.Omega.{arith}
 use lib.Dec.{eqb, ltb, leb}
 use lib.ListN.{length, length-append}
+use lib.Seq.{take_all}
 use borrow.Author.Tests.{eqb-true, leb-true, ltb-false}
 use denote.Laws.{Is}
 use denote.Enum.Declared.{row}
 use denote.Enum.Laws.{val, owed}
 use Rattle.text.specs.Bytes.{bytes, starts_with, within, all_within}
-use Rattle.text.specs.Reading.{read, refused}
+use Rattle.text.specs.Reading.{Reading, read, refused}
 use Rattle.text.proofs.Ascii.{within_append, within_wider, digits_printable}
 use Rattle.text.proofs.Begins.{begins_size, starts_in}
 use Rattle.text.proofs.Tests.{never, and_left, and_right}
 use Rattle.at_command.specs.Piece.{marked, escape, escaped, quoted, decimal}
-use Rattle.at_command.specs.Request.{Asked, get_signal_quality, show_iccid, get_imei, get_operator_info, set_manual_operator, set_automatic_operator, get_system_info, synchronize_network_time, execute, download_to_file_system, get_sms_message_format, set_sms_message_format, read_sms, Numbers, body_of, command_of, up_to, operator_up_to, texts_of, any_long, any_unfit, refusal_of, encode_reading}
+use Rattle.at_command.specs.Request.{Asked, get_signal_quality, show_iccid, get_imei, get_operator_info, set_manual_operator, set_automatic_operator, get_system_info, synchronize_network_time, execute, download_to_file_system, get_sms_message_format, set_sms_message_format, read_sms, Numbers, body_of, command_of, up_to, operator_up_to, texts_of, any_long, any_unfit, refusal_of, fitting, encode_reading, LeavesWritten, Writes}
 use Rattle.at_command.specs.says.Request.{asked}
 use Rattle.at_command.specs.declared.cmgf.SmsMessageFormat.TheVariants.{Pdu, Text}
 use Rattle.at_command.specs.declared.request.Request.{Request}
 use Rattle.at_command.specs.declared.request.Request.TheVariants as R
 use Rattle.at_command.proofs.Decimals.{decimal_most}
 use Rattle.at_command.proofs.DecimalReads.{decimal_digits}
+use Rattle.at_command.proofs.Pieces.{Holds}
 use Rattle.at_command.proofs.QuotedSizes.{quoted_most}
-use Rattle.at_command.proofs.Writing.{limited, fitted, Faultless, no_fault}
+use Rattle.at_command.proofs.Writing.{limited, fitted, Faultless, no_fault, past_texts}
 use Rattle.at_command.specs.contracts.request.Request.{the_type}
 use Rattle.at_command.proofs.request.Request.TheLaws.{the_laws}
 
@@ -138,6 +140,14 @@ module _ (a : Asked) where
 
     pub command_ascii : all_within 0 0x7F (command_of a) ≡ true
     command_ascii = rw (within_append 0 0x7F (body_of a) (bytes "\r"), body_ascii)
+
+-- ---- what is written
+
+-- the 210 bytes that `Command` has room for hold it whole: a writer whose texts are good sends it
+pub sends : (a : Asked) (b c : List ℕ) (w : Reading ℕ) (x : List ℕ) → Numbers a → 0 ≡ refusal_of (texts_of a) → Holds c (command_of a) → LeavesWritten (fitting c (length b)) b w x → Writes a b w x
+sends a b c w x numbers is h p =
+    let whole = take_all 210 (command_of a) (command_size a numbers (no_fault (texts_of a) (sym is)).short) in
+    past_texts a b is w x (rw (sym (h.is ∙ whole)) p)
 
 -- ---- what was written
 

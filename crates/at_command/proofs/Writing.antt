@@ -9,13 +9,14 @@ use lib.ListN.{length, drop}
 use lib.Dec.{ltb}
 use borrow.Author.Tests.{lt-ltb, le-ltb, ltb-false, lt-leb, le-leb, ne_eqb, not-true, not-false}
 use Rattle.text.specs.Bytes.{all_within, all_digits}
+use Rattle.text.specs.Copy.{LayKeeps}
 use Rattle.text.specs.Reading.{Reading, read, refused, mapped}
+use Rattle.text.proofs.Copying.{whole_ends, whole_holds}
 use Rattle.text.proofs.Ascii.{digits_printable}
 use Rattle.text.specs.says.Refusal.{number_of}
 use Rattle.text.specs.declared.refusal.Refusal.{Refusal}
 use Rattle.text.proofs.Refusals.{some_refusal}
 use Rattle.text.proofs.Tests.{neither}
-use Rattle.at_command.specs.WriterSteps.{Lays}
 use Rattle.at_command.specs.Request.{Asked, set_manual_operator, command_of, operator_number, Text, up_to, operator_up_to, texts_of, any_long, any_bad_operator, any_unfit, refusal_of, fitting, LeavesWritten, Writes}
 
 -- a command that does not fit, and one that was laid
@@ -23,11 +24,14 @@ pub no_room : (c b : List ℕ) (n : ℕ) → n ≡ length c → length b < n →
 unfolding mapped
 no_room c b n e h = rw (lt-ltb (length b) (length c) (omega arith)) (record { says = refl; holds = refl })
 
-pub laid : (c b x : List ℕ) (e : ℕ) → Lays c 0 b e x → LeavesWritten (fitting c (length b)) b (read e) x
+pub laid : (c b x : List ℕ) (e : ℕ) → length c ≤ length b → LayKeeps c 0 b e x → LeavesWritten (fitting c (length b)) b (read e) x
 unfolding mapped
-laid c b x e l =
-    let r = l.room in
-    rw (le-ltb (length b) (length c) (omega arith)) (record { says = ap read (l.ends ∙ zero-add (length c)); holds = l.holds ∙ ap (λ (n : ℕ). c ++ drop n b) (zero-add (length c)) })
+laid c b x e h l =
+    rw (le-ltb (length b) (length c) h)
+    (record {
+      says = ap read (whole_ends c 0 b e x (omega arith) l ∙ zero-add (length c));
+      holds = whole_holds c 0 b e x (omega arith) l ∙ ap (λ (n : ℕ). c ++ drop n b) (zero-add (length c));
+    })
 
 -- the texts of a request
 module _ (t : Text) (ts : List Text) where
@@ -113,17 +117,6 @@ module _ (t u : List ℕ) (n m : ℕ) where
         pub both_fit : not y ≡ false → 0 ≡ refusal_of two
         both_fit w = says_0 two both_short refl (fit first second x is false z (fit (up_to m u) [] y also false w refl))
 
-  -- where it is 0, both are short
-  module _ (is : 0 ≡ refusal_of two) where
-    both_limited : (length t ≤ n) × (any_long second ≡ false)
-    both_limited = limited first second (no_fault two (sym is)).short
-
-    pub first_limited : length t ≤ n
-    first_limited = both_limited.0
-
-    pub second_limited : length u ≤ m
-    second_limited = (limited (up_to m u) [] both_limited.1).0
-
 -- `cops::check_number`
 module _ (p : List ℕ) where
   abbrev number : List Text
@@ -155,12 +148,5 @@ module _ (a : Asked) (b : List ℕ) where
   unfolding mapped
   refuses k is = rw (sym is, ne_eqb (number_of k) 0 (some_refusal k)) (record { says = refl; holds = refl })
 
-  module _ (is : 0 ≡ refusal_of (texts_of a)) where
-    past_texts : (w : Reading ℕ) (x : List ℕ) → LeavesWritten (fitting (command_of a) (length b)) b w x → Writes a b w x
-    past_texts w x p = rw (sym is) p
-
-    pub refuses_7 : (n : ℕ) → n ≡ length (command_of a) → length b < n → Writes a b (refused 7) b
-    refuses_7 n e r = past_texts (refused 7) b (no_room (command_of a) b n e r)
-
-    pub writes : (x : List ℕ) (e : ℕ) → Lays (command_of a) 0 b e x → Writes a b (read e) x
-    writes x e d = past_texts (read e) x (laid (command_of a) b x e d)
+  pub past_texts : 0 ≡ refusal_of (texts_of a) → (w : Reading ℕ) (x : List ℕ) → LeavesWritten (fitting (command_of a) (length b)) b w x → Writes a b w x
+  past_texts is w x p = rw (sym is) p

@@ -16,5 +16,4 @@ pub mod Piece
 pub mod Request
 pub mod Response
 pub mod Unquoted
-pub mod WriterSteps
 pub mod says

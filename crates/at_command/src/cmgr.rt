@@ -10,7 +10,8 @@ ghost use Rattle.at_command.specs.Request.{read_sms};
 ghost use Rattle.at_command.specs.says.Cmgr.{says, SmsMessageKeeps};
 ghost use Rattle.at_command.specs.says.Request.{EncodeKeeps};
 
-use crate::{unquoted, write};
+use crate::unquoted;
+use crate::write::Command;
 use text::handed::TextAt;
 use text::part::Place;
 use text::refusal::Refusal;
@@ -74,12 +75,10 @@ impl ReadSms {
     pub fn encode(self, out: &mut [u8]) -> Result<usize, Refusal>
         ensures { EncodeKeeps (read_sms self.index) out.old result out.new }
     {
-        let index = self.index as u16;
-        if out.len() < 9 + write::decimal_size(index) {
-            return Err(Refusal::NoRoom);
-        }
-        let at = write::lay(b"AT+CMGR=", 0, out);
-        let at = write::lay_decimal(index, at, out);
-        Ok(write::lay_byte(b'\r', at, out))
+        let mut command = Command::new();
+        command.text(b"AT+CMGR=");
+        command.decimal(self.index as u16);
+        command.byte(b'\r');
+        command.write_to(out)
     }
 }

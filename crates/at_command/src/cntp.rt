@@ -1,19 +1,17 @@
 // AT+CNTP: the time of the network.
 #![tactic(auto, unfolding(text::specs::Line::checked, text::specs::Reading::only, text::specs::Reading::need_else, text::specs::Reading::either, text::specs::Reading::fitting, crate::specs::Cntp::cntp_rest, crate::specs::Cntp::cntp_text))]
 
-ghost use Rattle.std.specs.Prelude.{◌≡◌, ◌+◌, ◌≤◌, drop, length};
+ghost use Rattle.std.specs.Prelude.{◌≡◌, drop};
 ghost use Rattle.text.specs.Code.{code_in};
 ghost use Rattle.text.specs.says.Handed.{TextKeeps};
 ghost use Rattle.text.specs.says.Refusal.{option_mapped};
 ghost use Rattle.at_command.specs.Cntp.{ntp_codes, cntp_rest, cntp_text};
 ghost use Rattle.at_command.specs.Handed.{time_handed};
-ghost use Rattle.at_command.specs.WriterSteps.{Lays};
-ghost use Rattle.at_command.specs.Piece.{quoted, decimal};
-ghost use Rattle.at_command.specs.Request.{command_of, synchronize_network_time, execute};
+ghost use Rattle.at_command.specs.Request.{synchronize_network_time, execute};
 ghost use Rattle.at_command.specs.says.Cntp.{says, code_number, NetworkTimeKeeps};
 ghost use Rattle.at_command.specs.says.Request.{EncodeKeeps};
 
-use crate::write;
+use crate::write::{self, Command};
 use text::handed::TextAt;
 use text::part::Place;
 use text::refusal::Refusal;
@@ -114,28 +112,16 @@ impl SynchronizeNetworkTime {
         ensures { EncodeKeeps (synchronize_network_time ntp_server.now self.timezone self.cid) out.old result out.new }
     {
         write::check_texts(ntp_server, 64, b"", 0)?;
-        let timezone = self.timezone;
-        let cid = self.cid as u16;
-        let numbers = write::decimal_size(timezone) + write::decimal_size(cid);
-        if out.len() < 11 + write::quoted_size(ntp_server) + numbers {
-            return Err(Refusal::NoRoom);
-        }
-        Ok(lay_sync(ntp_server, timezone, cid, out))
+        let mut command = Command::new();
+        command.text(b"AT+CNTP=");
+        command.quoted(ntp_server);
+        command.byte(b',');
+        command.decimal(self.timezone);
+        command.byte(b',');
+        command.decimal(self.cid as u16);
+        command.byte(b'\r');
+        command.write_to(out)
     }
-}
-
-// Lays the command where there is room for it.
-fn lay_sync(ntp_server: &[u8], timezone: u16, cid: u16, out: &mut [u8]) -> usize
-    requires { 11 + length (quoted ntp_server.now) + length (decimal timezone) + length (decimal cid) ≤ length out.old }
-    ensures { Lays (command_of (synchronize_network_time ntp_server.now timezone cid)) 0 out.old result out.new }
-{
-    let at = write::lay(b"AT+CNTP=", 0, out);
-    let at = write::lay_quoted(ntp_server, at, out);
-    let at = write::lay_byte(b',', at, out);
-    let at = write::lay_decimal(timezone, at, out);
-    let at = write::lay_byte(b',', at, out);
-    let at = write::lay_decimal(cid, at, out);
-    write::lay_byte(b'\r', at, out)
 }
 
 // AT+CNTP

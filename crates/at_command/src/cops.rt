@@ -1,18 +1,18 @@
 // AT+COPS: the operator.
 #![tactic(auto, unfolding(text::specs::Line::checked, text::specs::Reading::only, text::specs::Reading::need_else, crate::specs::Cops::cops_fields, crate::specs::Cops::cops_text))]
 
-ghost use Rattle.std.specs.Prelude.{◌≡◌, ◌+◌, ◌≤◌, drop, length};
+ghost use Rattle.std.specs.Prelude.{◌≡◌, drop};
 ghost use Rattle.text.specs.Code.{code_in};
 ghost use Rattle.text.specs.Field.{fields};
 ghost use Rattle.text.specs.says.Handed.{TextKeeps};
 ghost use Rattle.text.specs.says.Refusal.{option_mapped, refusal_said};
 ghost use Rattle.at_command.specs.Cops.{operator_modes, operator_formats, FieldOr, name_of, cops_fields, cops_text};
 ghost use Rattle.at_command.specs.Handed.{name_handed};
-ghost use Rattle.at_command.specs.WriterSteps.{Lays};
-ghost use Rattle.at_command.specs.Request.{texts_of, refusal_of, command_of, get_operator_info, set_manual_operator, set_automatic_operator};
+ghost use Rattle.at_command.specs.Request.{texts_of, refusal_of, get_operator_info, set_manual_operator, set_automatic_operator};
 ghost use Rattle.at_command.specs.says.Cops.{says, mode_number, format_number, name_says, OperatorInfoKeeps};
 ghost use Rattle.at_command.specs.says.Request.{EncodeKeeps};
 
+use crate::write::Command;
 use crate::{unquoted, write};
 use text::handed::TextAt;
 use text::part::Place;
@@ -168,10 +168,12 @@ impl SetManualOperator {
         ensures { EncodeKeeps (set_manual_operator plmn.now) out.old result out.new }
     {
         check_number(plmn)?;
-        if out.len() < 15 + plmn.len() {
-            return Err(Refusal::NoRoom);
-        }
-        Ok(lay_manual(plmn, out))
+        let mut command = Command::new();
+        command.text(b"AT+COPS=1,2,\"");
+        command.text(plmn);
+        command.byte(b'"');
+        command.byte(b'\r');
+        command.write_to(out)
     }
 }
 
@@ -186,17 +188,6 @@ fn check_number(plmn: &[u8]) -> Result<(), Refusal>
         return Err(Refusal::OperatorNumber);
     }
     Ok(())
-}
-
-// Lays the command where there is room for it.
-fn lay_manual(plmn: &[u8], out: &mut [u8]) -> usize
-    requires { 15 + length plmn.now ≤ length out.old }
-    ensures { Lays (command_of (set_manual_operator plmn.now)) 0 out.old result out.new }
-{
-    let at = write::lay(b"AT+COPS=1,2,\"", 0, out);
-    let at = write::lay(plmn, at, out);
-    let at = write::lay_byte(b'"', at, out);
-    write::lay_byte(b'\r', at, out)
 }
 
 // AT+COPS=0: the modem chooses.

@@ -1,19 +1,17 @@
 // AT+HTTPTOFS: a download to the modem's file system.
 #![tactic(auto, unfolding(text::specs::Line::checked, text::specs::Reading::only, crate::specs::Httptofs::download_of, crate::specs::Httptofs::httptofs_text))]
 
-ghost use Rattle.std.specs.Prelude.{◌≡◌, ◌+◌, ◌≤◌, length, drop};
+ghost use Rattle.std.specs.Prelude.{◌≡◌};
 ghost use Rattle.text.specs.Gives.{Gives};
 ghost use Rattle.text.specs.Code.{code_in};
 ghost use Rattle.text.specs.Number.{unsigned};
 ghost use Rattle.text.specs.Part.{after};
 ghost use Rattle.at_command.specs.Httptofs.{http_codes, or_zero, download_of, httptofs_text};
-ghost use Rattle.at_command.specs.WriterSteps.{Lays};
-ghost use Rattle.at_command.specs.Piece.{quoted};
-ghost use Rattle.at_command.specs.Request.{command_of, download_to_file_system};
+ghost use Rattle.at_command.specs.Request.{download_to_file_system};
 ghost use Rattle.at_command.specs.says.Httptofs.{says, status_number, info_says, DownloadInfoKeeps, SuccessKeeps};
 ghost use Rattle.at_command.specs.says.Request.{EncodeKeeps};
 
-use crate::write;
+use crate::write::{self, Command};
 use text::refusal::Refusal;
 use text::{bytes, code, line, number, part};
 
@@ -124,21 +122,12 @@ impl DownloadToFileSystem {
         ensures { EncodeKeeps (download_to_file_system url.now file_path.now) out.old result out.new }
     {
         write::check_texts(url, 64, file_path, 32)?;
-        if out.len() < 14 + write::quoted_size(url) + write::quoted_size(file_path) {
-            return Err(Refusal::NoRoom);
-        }
-        Ok(lay_download(url, file_path, out))
+        let mut command = Command::new();
+        command.text(b"AT+HTTPTOFS=");
+        command.quoted(url);
+        command.byte(b',');
+        command.quoted(file_path);
+        command.byte(b'\r');
+        command.write_to(out)
     }
-}
-
-// Lays the command where there is room for it.
-fn lay_download(url: &[u8], file_path: &[u8], out: &mut [u8]) -> usize
-    requires { 14 + length (quoted url.now) + length (quoted file_path.now) ≤ length out.old }
-    ensures { Lays (command_of (download_to_file_system url.now file_path.now)) 0 out.old result out.new }
-{
-    let at = write::lay(b"AT+HTTPTOFS=", 0, out);
-    let at = write::lay_quoted(url, at, out);
-    let at = write::lay_byte(b',', at, out);
-    let at = write::lay_quoted(file_path, at, out);
-    write::lay_byte(b'\r', at, out)
 }

@@ -1,11 +1,11 @@
-// Laying a command into a lent buffer, piece behind piece.
-ghost use Rattle.std.specs.Prelude.{◌≡◌, [], ◌∷◌, ◌+◌, ◌%◌, ◌≤◌, ◌<◌, length};
+// What the writers of requests share: the check of texts, and the command as it is written.
+ghost use Rattle.std.specs.Prelude.{ℕ, ◌≡◌, List, [], ◌∷◌, ◌++◌, ◌+◌, ◌%◌, ◌≤◌, length, take};
 ghost use Rattle.text.specs.says.Refusal.{refusal_said};
-ghost use Rattle.at_command.specs.WriterSteps.{Lays, last_digits, HasDigits};
-ghost use Rattle.at_command.specs.Piece.{marked, escaped, quoted, decimal};
+ghost use Rattle.at_command.specs.Piece.{marked, quoted, decimal};
 ghost use Rattle.at_command.specs.Request.{up_to, refusal_of, fitting, LeavesWritten};
 ghost use Rattle.at_command.specs.says.Request.{encoded_says};
 
+use std::marker::Model;
 use text::refusal::Refusal;
 use text::{bytes, copy};
 
@@ -27,23 +27,6 @@ pub(crate) fn check_texts(
     Ok(())
 }
 
-// Lays the piece at index `at`, and says where it ends.
-pub(crate) fn lay(piece: &[u8], at: usize, out: &mut [u8]) -> usize
-    requires { at + length piece.now ≤ length out.old }
-    ensures { Lays piece.now at out.old result out.new }
-{
-    copy::lay(piece, at, out)
-}
-
-// The same of one byte.
-pub(crate) fn lay_byte(x: u8, at: usize, out: &mut [u8]) -> usize
-    requires { at < length out.old }
-    ensures { Lays (x ∷ []) at out.old result out.new }
-{
-    out[at] = x;
-    at + 1
-}
-
 // Whether x is a quote or a backslash.
 fn is_marked(x: u8) -> bool
     ensures { result ≡ marked x }
@@ -51,97 +34,11 @@ fn is_marked(x: u8) -> bool
     x == b'"' || x == b'\\'
 }
 
-// Lays the text with a backslash before each quote and backslash.
-fn lay_escaped(piece: &[u8], at: usize, out: &mut [u8]) -> usize
-    requires { at + length (escaped piece.now) ≤ length out.old }
-    ensures { Lays (escaped piece.now) at out.old result out.new }
-{
-    let mut i = 0;
-    let mut e = at;
-    while i < piece.len() {
-        let x = piece[i];
-        if is_marked(x) {
-            out[e] = 92;
-            out[e + 1] = x;
-            e += 2;
-            i += 1;
-        } else {
-            out[e] = x;
-            e += 1;
-            i += 1;
-        }
-    }
-    e
-}
-
-// Lays the text in quotes, as `{:?}` writes it.
-pub(crate) fn lay_quoted(piece: &[u8], at: usize, out: &mut [u8]) -> usize
-    requires { at + length (quoted piece.now) ≤ length out.old }
-    ensures { Lays (quoted piece.now) at out.old result out.new }
-{
-    let a = lay_byte(b'"', at, out);
-    let e = lay_escaped(piece, a, out);
-    lay_byte(b'"', e, out)
-}
-
-// How many bytes that takes.
-pub(crate) fn quoted_size(piece: &[u8]) -> usize
-    requires { length piece.now ≤ 64 }
-    ensures { (result ≡ length (quoted piece.now)) × (result ≤ 194) }
-{
-    2 + piece.len() + bytes::count_byte(piece, 34) + bytes::count_byte(piece, 92)
-}
-
+// The last decimal digit of n.
 fn digit(n: u16) -> u8
     ensures { result ≡ 48 + n % 10 }
 {
     48 + (n % 10) as u8
-}
-
-// The last five decimal digits of n, which are all that it can have.
-fn five_digits(n: u16) -> [u8; 5]
-    ensures { result ≡ last_digits 5 n }
-{
-    let tens = n / 10;
-    let hundreds = tens / 10;
-    let thousands = hundreds / 10;
-    let most = thousands / 10;
-    [
-        digit(most),
-        digit(thousands),
-        digit(hundreds),
-        digit(tens),
-        digit(n),
-    ]
-}
-
-// How many digits n has.
-pub(crate) fn decimal_size(n: u16) -> usize
-    ensures { HasDigits n result }
-{
-    if n < 10 {
-        return 1;
-    }
-    if n < 100 {
-        return 2;
-    }
-    if n < 1000 {
-        return 3;
-    }
-    if n < 10000 {
-        return 4;
-    }
-    5
-}
-
-// Lays the number in decimal.
-pub(crate) fn lay_decimal(n: u16, at: usize, out: &mut [u8]) -> usize
-    requires { at + length (decimal n) ≤ length out.old }
-    ensures { Lays (decimal n) at out.old result out.new }
-{
-    let digits = five_digits(n);
-    let from = 5 - decimal_size(n);
-    lay(&digits[from..], at, out)
 }
 
 // Writes a command that is there whole.
@@ -151,5 +48,78 @@ pub(crate) fn plain(command: &[u8], out: &mut [u8]) -> Result<usize, Refusal>
     if out.len() < command.len() {
         return Err(Refusal::NoRoom);
     }
-    Ok(lay(command, 0, out))
+    Ok(copy::lay(command, 0, out))
+}
+
+// The most bytes that a command has.
+const MOST: usize = 210;
+
+// A command that is being written, piece behind piece, until it goes into the buffer that is lent
+// for it. What goes past its 210 bytes is dropped: no request has a longer command.
+#[derive(Drop)]
+pub(crate) struct Command {
+    bytes: [u8; MOST],
+    len: usize,
+}
+
+impl Model for Command {
+    ghost Value = { List ℕ };
+
+    ghost view = { λ c. take c.len c.bytes };
+
+    ghost invariant = { λ c. c.len ≤ 210 };
+}
+
+impl Command {
+    pub(crate) fn new() -> Command
+        ensures { result ≡ [] }
+    {
+        Command {
+            bytes: [0; MOST],
+            len: 0,
+        }
+    }
+
+    pub(crate) fn text(&mut self, piece: &[u8])
+        ensures { self.new ≡ take 210 (self.old ++ piece.now) }
+    {
+        self.len = copy::lay(piece, self.len, &mut self.bytes);
+    }
+
+    pub(crate) fn byte(&mut self, x: u8)
+        ensures { self.new ≡ take 210 (self.old ++ x ∷ []) }
+    {
+        self.text(&[x]);
+    }
+
+    // The text in quotes, as `{:?}` writes it: a backslash before each quote and backslash.
+    pub(crate) fn quoted(&mut self, piece: &[u8])
+        ensures { self.new ≡ take 210 (self.old ++ quoted piece.now) }
+    {
+        self.byte(b'"');
+        for x in piece {
+            if is_marked(*x) {
+                self.byte(b'\\');
+            }
+            self.byte(*x);
+        }
+        self.byte(b'"');
+    }
+
+    // The number in decimal.
+    pub(crate) fn decimal(&mut self, n: u16)
+        ensures { self.new ≡ take 210 (self.old ++ decimal n) }
+    {
+        if 10 <= n {
+            self.decimal(n / 10);
+        }
+        self.byte(digit(n));
+    }
+
+    // Writes the command into the buffer, which stays as it was where it has no room.
+    pub(crate) fn write_to(&self, out: &mut [u8]) -> Result<usize, Refusal>
+        ensures { LeavesWritten (fitting self.now (length out.old)) out.old (encoded_says result) out.new }
+    {
+        plain(&self.bytes[..self.len], out)
+    }
 }

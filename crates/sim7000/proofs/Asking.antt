@@ -4,19 +4,25 @@ use mathlib.Core.Path.{◌≡◌, refl, sym}
 use mathlib.Core.List.{List}
 use mathlib.Core.Option.{Option, none, some}
 use lib.ListN.{length, get_or-eq_default}
+use borrow.Author.Tests.{lt-leb}
 use Rattle.text.specs.Reading.{Reading, read, refused, mapped}
 use Rattle.at_command.specs.Request.{Asked, encode_reading, written}
 use Rattle.desk.specs.Desk.{Opened}
 use Rattle.desk.specs.Rules.{Mode}
 use Rattle.text.proofs.Tests.{never}
 use Rattle.desk.proofs.Opening.{opened_same}
-use Rattle.sim7000.specs.Command.{requests, asked_by, write_left, write_leaves, writes, open_left, open_leaves, opened_on, opens}
+use Rattle.sim7000.specs.Command.{format_asked, requests, asked_by, write_left, write_leaves, writes, open_left, open_leaves, opened_on, opens}
 
 -- ---- no request has that number
 
 pub asked_none : (request number code : ℕ) (first second : List ℕ) → 13 ≤ request → none ≡ asked_by request number code first second
 unfolding asked_by
 asked_none request number code first second h = sym (get_or-eq_default (requests number code first second) none h)
+
+-- no format has that code
+pub format_none : (code : ℕ) → 2 ≤ code → none ≡ format_asked code
+unfolding format_asked
+format_none code h = rw (lt-leb code 1 h)
 
 -- ---- write
 

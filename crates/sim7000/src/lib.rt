@@ -1,9 +1,8 @@
-// What firmware links: the readers, the writers and the desk as C functions on numbers and lent bytes. `specs/` says what each number means.
+// What firmware links: the readers, the writers and the desk as C functions on numbers and lent
+// bytes. `specs/` says what each number means.
 #![tactic(auto)]
 
-mod codes;
 mod numbers;
-mod optional;
 mod parts;
 mod read;
 mod request;

@@ -1,5 +1,7 @@
-// The numbers that stand for a desk's state.
+// The numbers that stand for a desk's state, and for a refusal. State is the desk's own type, and
+// [u64; 4] the language's, so From between the two cannot be written here.
 ghost use Rattle.std.specs.Prelude.{◌≡◌, List, ℕ};
+ghost use Rattle.text.specs.says.Refusal.{refusal_said};
 ghost use Rattle.desk.specs.Judge.{awaiting};
 ghost use Rattle.desk.specs.Ordinal.{capped};
 ghost use Rattle.desk.specs.Says.{command_says, state_in};
@@ -7,6 +9,7 @@ ghost use Rattle.sim7000.specs.Parts.{awaited_in, number_of, desk_in, numbers_of
 
 use at_command::request::{Awaits, ResponseKind};
 use desk::State;
+use text::refusal::Refusal;
 
 #[tactic(auto, using(crate::proofs::Commands::awaits))]
 fn command_in(n: u64) -> Option<Awaits>
@@ -16,10 +19,7 @@ fn command_in(n: u64) -> Option<Awaits>
         1..=13 => Some(Awaits::One(ResponseKind::at(n - 1))),
         14..=182 => {
             let m = n - 14;
-            Some(Awaits::Two(
-                ResponseKind::at(m / 13),
-                ResponseKind::at(m % 13),
-            ))
+            Some(Awaits::Two(ResponseKind::at(m / 13), ResponseKind::at(m % 13)))
         }
         _ => None,
     }
@@ -66,14 +66,12 @@ pub(crate) fn numbers_of(state: State) -> [u64; 4]
     ]
 }
 
-pub(crate) fn number_in(n: usize) -> u64
-    ensures { result ≡ n }
+// What a call answers in C: 0, or the refusal's number.
+pub(crate) fn status(done: Result<(), Refusal>) -> u8
+    ensures { result ≡ refusal_said done }
 {
-    n as u64
-}
-
-pub(crate) fn wide(n: u32) -> u64
-    ensures { result ≡ n }
-{
-    n.into()
+    match done {
+        Ok(()) => 0,
+        Err(refusal) => refusal.number(),
+    }
 }

@@ -1,13 +1,19 @@
 // The desk in lent parts: opened, fed, reset.
-ghost use Rattle.std.specs.Prelude.{◌≡◌};
-ghost use Rattle.desk.specs.Says.{heard_says};
-ghost use Rattle.sim7000.specs.Command.{ExportOpenKeeps, ExportOpenEchoKeeps};
+ghost use Rattle.std.specs.Prelude.{◌≡◌, List, ℕ, length};
+ghost use Rattle.text.specs.says.Refusal.{refusal_said};
+ghost use Rattle.desk.specs.Rules.{plain_mode, echo_mode};
+ghost use Rattle.desk.specs.Says.{feed_says};
+ghost use Rattle.sim7000.specs.Command.{open_left, opens, ExportOpenKeeps, ExportOpenEchoKeeps};
 ghost use Rattle.sim7000.specs.Parts.{told_of, ExportResetKeeps, ExportIsOpenKeeps, ExportFeedKeeps};
 ghost use Rattle.sim7000.specs.says.Left.{LeaveKeeps};
+ghost use Rattle.sim7000.specs.says.Wanted.{wanted_says};
 
-use crate::request::Wanted;
-use crate::{numbers, request};
+use crate::numbers;
+use crate::numbers::status;
+use crate::request::request_in;
+use at_command::request::Request;
 use desk::{Feed, OpenedParts};
+use text::refusal::Refusal;
 
 // Zeros are the state after it: idle, no echo awaited, nothing held, and no line counted.
 #[unsafe(no_mangle)]
@@ -26,20 +32,33 @@ pub extern "C" fn sim7000_is_open(state: &[u64; 4]) -> u8
 }
 
 // What an open leaves in the numbers; a refusal leaves them.
-fn leave(opened: OpenedParts, state: &mut [u64; 4], size: &mut u64) -> u8
-    ensures { LeaveKeeps opened state.old size.old result state.new size.new }
+fn leave(opened: OpenedParts, state: &mut [u64; 4], size: &mut u64) -> Result<(), Refusal>
+    ensures { LeaveKeeps opened state.old size.old (refusal_said result) state.new size.new }
 {
-    match opened.answer {
-        Err(refusal) => refusal.number(),
-        Ok(written) => {
-            *state = numbers::numbers_of(opened.state);
-            *size = written as u64;
-            0
-        }
-    }
+    *size = opened.answer? as u64;
+    *state = numbers::numbers_of(opened.state);
+    Ok(())
 }
 
-// A command is opened and written. No open looks at the line's bytes, and this one not at what was sent, so they are not lent.
+// A number that is no request is refused with 3, before 8 and 9 too.
+fn open(
+    state: &mut [u64; 4],
+    request: Option<Request>,
+    first: &[u8],
+    second: &[u8],
+    out: &mut [u8],
+    size: &mut u64,
+) -> Result<(), Refusal>
+    ensures { (line sent : List ℕ) → length line ≡ 257 → open_left (refusal_said result) state.new sent out.new size.new
+        ≡ opens plain_mode (wanted_says request first.now second.now) line state.old sent out.old size.old }
+{
+    let request = request.ok_or(Refusal::NotThisLine)?;
+    let opened = desk::open_on(numbers::state_in(state), request, first, second, out);
+    leave(opened, state, size)
+}
+
+// A command is opened and written. No open looks at the line's bytes, and this one not at what was
+// sent, so they are not lent.
 #[unsafe(no_mangle)]
 pub extern "C" fn sim7000_open(
     state: &mut [u64; 4],
@@ -53,17 +72,30 @@ pub extern "C" fn sim7000_open(
 ) -> u8
     ensures { ExportOpenKeeps state.old request number code first.now second.now out.old size.old result state.new out.new size.new }
 {
-    let wanted = request::request_in(request, number, code);
-    match wanted {
-        Wanted::Not => 3,
-        Wanted::Is(q) => {
-            let opened = desk::open_on(numbers::state_in(state), q, first, second, out);
-            leave(opened, state, size)
-        }
-    }
+    let request = request_in(request, number, code);
+    status(open(state, request, first, second, out, size))
 }
 
-// The same for a modem with echo on: what is written is kept in `sent`, and until it comes back as a line no answer is taken for it.
+fn open_echo(
+    state: &mut [u64; 4],
+    sent: &mut [u8; 210],
+    request: Option<Request>,
+    first: &[u8],
+    second: &[u8],
+    out: &mut [u8],
+    size: &mut u64,
+) -> Result<(), Refusal>
+    ensures { (line : List ℕ) → length line ≡ 257 → open_left (refusal_said result) state.new sent.new out.new size.new
+        ≡ opens echo_mode (wanted_says request first.now second.now) line state.old sent.old out.old size.old }
+{
+    let request = request.ok_or(Refusal::NotThisLine)?;
+    let before = numbers::state_in(state);
+    let opened = desk::open_echo_on(before, sent, request, first, second, out);
+    leave(opened, state, size)
+}
+
+// The same for a modem with echo on: what is written is kept in `sent`, and until it comes back as
+// a line no answer is taken for it.
 #[unsafe(no_mangle)]
 pub extern "C" fn sim7000_open_echo(
     state: &mut [u64; 4],
@@ -78,20 +110,13 @@ pub extern "C" fn sim7000_open_echo(
 ) -> u8
     ensures { ExportOpenEchoKeeps state.old sent.old request number code first.now second.now out.old size.old result state.new sent.new out.new size.new }
 {
-    let wanted = request::request_in(request, number, code);
-    match wanted {
-        Wanted::Not => 3,
-        Wanted::Is(q) => {
-            let before = numbers::state_in(state);
-            let opened = desk::open_echo_on(before, sent, q, first, second, out);
-            leave(opened, state, size)
-        }
-    }
+    let request = request_in(request, number, code);
+    status(open_echo(state, sent, request, first, second, out, size))
 }
 
 // What a feed tells, in numbers.
 fn told_of(feed: Feed) -> [u64; 5]
-    ensures { result ≡ told_of (heard_says feed.taken feed.heard) }
+    ensures { result ≡ told_of (feed_says feed) }
 {
     let taken = feed.taken as u64;
     match feed.heard {
@@ -106,6 +131,23 @@ fn told_of(feed: Feed) -> [u64; 5]
     }
 }
 
+// What a feed leaves in the lent parts; a refusal leaves them.
+fn feed(
+    line: &mut [u8; 257],
+    state: &mut [u64; 4],
+    sent: &[u8; 210],
+    chunk: &[u8],
+    text: &mut [u8],
+    told: &mut [u64; 5],
+) -> Result<(), Refusal>
+    ensures { ExportFeedKeeps line.old state.old sent.now chunk.now text.old told.old (refusal_said result) line.new state.new text.new told.new }
+{
+    let fed = desk::feed_on(line, numbers::state_in(state), sent, chunk, text);
+    *told = told_of(fed.answer?);
+    *state = numbers::numbers_of(fed.state);
+    Ok(())
+}
+
 // Bytes are fed up to the first event.
 #[unsafe(no_mangle)]
 pub extern "C" fn sim7000_feed(
@@ -118,13 +160,5 @@ pub extern "C" fn sim7000_feed(
 ) -> u8
     ensures { ExportFeedKeeps line.old state.old sent.now chunk.now text.old told.old result line.new state.new text.new told.new }
 {
-    let fed = desk::feed_on(line, numbers::state_in(state), sent, chunk, text);
-    match fed.answer {
-        Err(refusal) => refusal.number(),
-        Ok(feed) => {
-            *state = numbers::numbers_of(fed.state);
-            *told = told_of(feed);
-            0
-        }
-    }
+    status(feed(line, state, sent, chunk, text, told))
 }

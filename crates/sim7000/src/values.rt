@@ -1,6 +1,7 @@
-// The 20 numbers of each reader: its number, its values, and zeros.
-ghost use Rattle.std.specs.Prelude.{◌≡◌, [], ◌∷◌};
-ghost use Rattle.text.specs.says.Part.{place_says};
+// The 20 numbers of each reader: its number, its values, and zeros. Numbers in place of types are
+// the C interface: bindings/c/sim7000.h says what each place holds.
+ghost use Rattle.std.specs.Prelude.{◌≡◌, ◌≤◌, length};
+ghost use Rattle.text.specs.says.Refusal.{option_said};
 ghost use Rattle.numeral.specs.Bits.{bits_of};
 ghost use Rattle.at_command.specs.Response.{error, iccid, signal, system, operator, time, download, imei};
 ghost use Rattle.at_command.specs.says.Ccid.{card_says};
@@ -18,180 +19,156 @@ ghost use Rattle.unsolicited.specs.says.Gnss.{report_says, fix_says};
 ghost use Rattle.unsolicited.specs.says.Registration.{registration_says};
 ghost use Rattle.unsolicited.specs.says.Urc.{urc_says};
 ghost use Rattle.trial.specs.Answer.{response, unsolicited};
-ghost use Rattle.sim7000.specs.Values.{padded, line_values, name_in, name_span};
+ghost use Rattle.sim7000.specs.Values.{there, padded, line_values};
 
-use crate::{codes, numbers, optional};
 use at_command::ResponseCode;
 use at_command::ccid::Iccid;
 use at_command::cntp::NetworkTime;
-use at_command::cops::{OperatorInfo, OperatorName};
+use at_command::cops::OperatorInfo;
 use at_command::cpsi::SystemInfo;
 use at_command::csq::SignalQuality;
 use at_command::generic_response::SimError;
 use at_command::gsn::Imei;
 use at_command::httptofs::DownloadInfo;
 use numeral::bits;
-use text::part::Place;
+use text::handed::TextAt;
 use unsolicited::Urc;
 use unsolicited::network_registration::NetworkRegistration;
 use unsolicited::ugnsinf::{GnssFix, GnssReport};
 
 // The bits of a float, as one of the 20 numbers.
-pub(crate) fn float(x: f32) -> u64
+fn float(x: f32) -> u64
     ensures { result ≡ bits_of x }
 {
-    bits::bits_of(x) as u64
+    bits::bits_of(x).into()
 }
 
-// The reader's number and up to five values.
-fn row(reader: u64, a: u64, b: u64, c: u64, d: u64, e: u64) -> [u64; 20]
-    ensures { result ≡ padded (reader ∷ a ∷ b ∷ c ∷ d ∷ e ∷ []) }
+// Whether a value that a line may lack is there.
+fn there<T: Copy>(value: Option<T>) -> u64
+    ensures { result ≡ there (option_said value) }
 {
-    [
-        reader, a, b, c, d, e, 0, 0, 0, 0, 0, 0, 0, 0, 0, 0, 0, 0, 0, 0,
-    ]
+    value.is_some().into()
 }
 
-// A text's place, and one value more.
-fn place_values(reader: u64, place: Place, more: u64) -> [u64; 20]
-    ensures { result ≡ padded (reader ∷ (place_says place).start ∷ (place_says place).end ∷ more ∷ []) }
+// The reader's number and its values, and zeros behind them.
+fn row(numbers: &[u64]) -> [u64; 20]
+    requires { length numbers.now ≤ 20 }
+    ensures { result ≡ padded numbers.now }
 {
-    let start = numbers::number_in(place.start);
-    let end = numbers::number_in(place.end);
-    row(reader, start, end, more, 0, 0)
+    let mut row = [0; 20];
+    row[..numbers.len()].copy_from_slice(numbers);
+    row
 }
 
 fn error_values(fault: SimError) -> [u64; 20]
     ensures { result ≡ line_values (response (error (fault_says fault))) }
 {
     match fault {
-        SimError::Generic => row(2, 0, 0, 0, 0, 0),
-        SimError::CmeErr { code } => row(2, 1, code as u64, 0, 0, 0),
-        SimError::CmsErr { code } => row(2, 2, code as u64, 0, 0, 0),
+        SimError::Generic => row(&[2, 0, 0]),
+        SimError::CmeErr { code } => row(&[2, 1, code.into()]),
+        SimError::CmsErr { code } => row(&[2, 2, code.into()]),
     }
 }
 
 fn iccid_values(card: Iccid) -> [u64; 20]
     ensures { result ≡ line_values (response (iccid (card_says card))) }
 {
-    row(
+    row(&[
         5,
-        card.country as u64,
-        card.issuer as u64,
-        card.account,
-        0,
-        0,
-    )
+        card.country.into(),
+        card.issuer.into(),
+        card.account.into(),
+    ])
 }
 
-fn signal_values(quality: SignalQuality) -> [u64; 20]
-    ensures { result ≡ line_values (response (signal (signal_says quality))) }
+fn signal_values(info: SignalQuality) -> [u64; 20]
+    ensures { result ≡ line_values (response (signal (signal_says info))) }
 {
-    let strength = quality.signal_strength;
-    let level = quality.signal_quality;
-    let a = optional::has_level(strength);
-    let b = optional::level(strength);
-    let c = optional::has_level(level);
-    let d = optional::level(level);
-    row(6, a, b, c, d, 0)
+    let strength = info.signal_strength;
+    let quality = info.signal_quality;
+    row(&[
+        6,
+        there(strength),
+        strength.map_or(0, float),
+        there(quality),
+        quality.map_or(0, float),
+    ])
 }
 
 fn system_values(info: SystemInfo) -> [u64; 20]
     ensures { result ≡ line_values (response (system (Cpsi.info_says info))) }
 {
-    let system = info.system_mode;
-    let operation = info.operation_mode;
-    let a = codes::system_mode(system);
-    let b = codes::operation_mode(operation);
-    row(7, a, b, 0, 0, 0)
+    row(&[7, info.system_mode as u64, info.operation_mode as u64])
 }
 
-// 0 where the name stands in the line, 1 where in the fallback text.
-fn name_in(name: OperatorName) -> u64
-    ensures { result ≡ name_in (Cops.name_says name) }
-{
-    match name {
-        OperatorName::InLine(_) => 0,
-        OperatorName::InFallback(_) => 1,
-    }
-}
-
-fn name_place(name: OperatorName) -> Place
-    ensures { place_says result ≡ name_span (Cops.name_says name) }
-{
-    match name {
-        OperatorName::InLine(place) => place,
-        OperatorName::InFallback(place) => place,
-    }
-}
-
+// The fourth number is 0 where the name stands in the line, 1 where in the fallback text.
 fn operator_values(info: OperatorInfo) -> [u64; 20]
     ensures { result ≡ line_values (response (operator (Cops.info_says info))) }
 {
-    let mode = info.mode;
-    let format = info.format;
-    let name = info.operator_name;
-    let a = codes::operator_mode(mode);
-    let b = codes::operator_format(format);
-    let c = name_in(name);
-    let place = name_place(name);
-    let start = numbers::number_in(place.start);
-    let end = numbers::number_in(place.end);
-    row(8, a, b, c, start, end)
+    let (text, place) = match info.operator_name {
+        TextAt::InLine(place) => (0, place),
+        TextAt::InFallback(place) => (1, place),
+    };
+    row(&[
+        8,
+        info.mode as u64,
+        info.format as u64,
+        text,
+        place.start as u64,
+        place.end as u64,
+    ])
 }
 
 fn time_values(net: NetworkTime) -> [u64; 20]
     ensures { result ≡ line_values (response (time (Cntp.info_says net))) }
 {
-    let code = net.code;
-    let place = net.time;
-    let a = codes::time_code(code);
-    let b = optional::has_time(place);
-    let c = optional::time_start(place);
-    let d = optional::time_end(place);
-    row(9, a, b, c, d, 0)
+    row(&[
+        9,
+        net.code as u64,
+        there(net.time),
+        net.time.map_or(0, |place| place.start as u64),
+        net.time.map_or(0, |place| place.end as u64),
+    ])
 }
 
 fn download_values(info: DownloadInfo) -> [u64; 20]
     ensures { result ≡ line_values (response (download (Httptofs.info_says info))) }
 {
-    let code = info.status_code;
-    row(10, code.number() as u64, info.data_length, 0, 0, 0)
+    row(&[10, info.status_code as u64, info.data_length])
 }
 
 fn imei_values(number: Imei) -> [u64; 20]
     ensures { result ≡ line_values (response (imei (imei_says number))) }
 {
-    if number.is_version_number {
-        return place_values(11, number.imei, 1);
-    }
-    place_values(11, number.imei, 0)
+    row(&[
+        11,
+        number.imei.start as u64,
+        number.imei.end as u64,
+        number.is_version_number.into(),
+    ])
 }
 
 pub(crate) fn response_values(code: ResponseCode) -> [u64; 20]
     ensures { result ≡ line_values (response (code_says code)) }
 {
     match code {
-        ResponseCode::Ok(_) => row(1, 0, 0, 0, 0, 0),
+        ResponseCode::Ok(_) => row(&[1]),
         ResponseCode::Error(fault) => error_values(fault),
-        ResponseCode::WritePrompt(_) => row(3, 0, 0, 0, 0, 0),
-        ResponseCode::CloseOk(close) => row(4, close.connection, 0, 0, 0, 0),
+        ResponseCode::WritePrompt(_) => row(&[3]),
+        ResponseCode::CloseOk(close) => row(&[4, close.connection]),
         ResponseCode::Iccid(card) => iccid_values(card),
-        ResponseCode::SignalQuality(quality) => signal_values(quality),
+        ResponseCode::SignalQuality(info) => signal_values(info),
         ResponseCode::SystemInfo(info) => system_values(info),
         ResponseCode::OperatorInfo(info) => operator_values(info),
         ResponseCode::NetworkTime(net) => time_values(net),
         ResponseCode::DownloadInfo(info) => download_values(info),
         ResponseCode::Imei(number) => imei_values(number),
-        ResponseCode::SmsMessageFormat(format) => row(
-            12,
-            codes::message_format(format),
-            0,
-            0,
-            0,
-            0,
-        ),
-        ResponseCode::SmsMessage(message) => place_values(13, message.sender, 0),
+        ResponseCode::SmsMessageFormat(format) => row(&[12, format as u64]),
+        ResponseCode::SmsMessage(message) => row(&[
+            13,
+            message.sender.start as u64,
+            message.sender.end as u64,
+        ]),
     }
 }
 
@@ -202,12 +179,12 @@ fn fix_values(found: GnssFix) -> [u64; 20]
     [
         14,
         2,
-        date.year as u64,
-        date.month as u64,
-        date.day as u64,
-        date.hour as u64,
-        date.minute as u64,
-        date.second as u64,
+        date.year.into(),
+        date.month.into(),
+        date.day.into(),
+        date.hour.into(),
+        date.minute.into(),
+        date.second.into(),
         float(found.latitude),
         float(found.longitude),
         float(found.altitude),
@@ -216,10 +193,10 @@ fn fix_values(found: GnssFix) -> [u64; 20]
         float(found.hdop),
         float(found.pdop),
         float(found.vdop),
-        numbers::wide(found.sat_gps_in_view),
-        numbers::wide(found.sat_gnss_used),
-        numbers::wide(found.sat_glonass_used),
-        numbers::wide(found.signal_noise_ratio),
+        found.sat_gps_in_view.into(),
+        found.sat_gnss_used.into(),
+        found.sat_glonass_used.into(),
+        found.signal_noise_ratio.into(),
     ]
 }
 
@@ -227,12 +204,13 @@ fn report_values(report: GnssReport) -> [u64; 20]
     ensures { result ≡ line_values (unsolicited (gnss (report_says report))) }
 {
     match report {
-        GnssReport::NotEnabled => row(14, 0, 0, 0, 0, 0),
-        GnssReport::NoFix { sat_gps_view } => {
-            let a = optional::has_u32(sat_gps_view);
-            let b = optional::u32_or_0(sat_gps_view);
-            row(14, 1, a, b, 0, 0)
-        }
+        GnssReport::NotEnabled => row(&[14, 0]),
+        GnssReport::NoFix { sat_gps_view } => row(&[
+            14,
+            1,
+            there(sat_gps_view),
+            sat_gps_view.unwrap_or(0).into(),
+        ]),
         GnssReport::Fix(found) => fix_values(found),
     }
 }
@@ -240,15 +218,14 @@ fn report_values(report: GnssReport) -> [u64; 20]
 fn registration_values(network: NetworkRegistration) -> [u64; 20]
     ensures { result ≡ line_values (unsolicited (registration (registration_says network))) }
 {
-    let status = network.status;
-    let lac = network.lac;
-    let ci = network.ci;
-    let s = codes::registration_status(status);
-    let a = optional::has_u16(lac);
-    let b = optional::u16_or_0(lac);
-    let c = optional::has_u32(ci);
-    let d = optional::u32_or_0(ci);
-    row(15, s, a, b, c, d)
+    row(&[
+        15,
+        network.status as u64,
+        there(network.lac),
+        network.lac.unwrap_or(0).into(),
+        there(network.ci),
+        network.ci.unwrap_or(0).into(),
+    ])
 }
 
 pub(crate) fn urc_values(urc: Urc) -> [u64; 20]

@@ -11,16 +11,13 @@ use lib.Ieee.{Float, binary32, of_bits, of_fields, fin}
 use lib.IntN.{pos}
 use lib.ListN.{length, get_or, drop}
 use borrow.Author.Tests.{eq-eqb, ne_eqb, eqb-true}
-use Rattle.text.specs.Bytes.{bytes, same}
 use Rattle.std.specs.Prelude as Std
-use Rattle.std.specs.Option.{is_some}
 use Rattle.text.specs.Field.{fields, nth}
-use Rattle.text.specs.Number.{unsigned}
-use Rattle.text.specs.says.Refusal.{option_said, option_mapped}
+use Rattle.text.specs.says.Refusal.{option_said}
 use Rattle.text.specs.Reader.{FieldStartsKeeps}
-use Rattle.text.specs.Reading.{Reading, read, refused, refusal_in, present, need, need_else}
+use Rattle.text.specs.Reading.{Reading, read, refusal_in, present, need, need_else}
 use Rattle.text.proofs.ReaderStarts.{starts_in, starts_past}
-use Rattle.text.proofs.Readings.{only_is, only_else, either_so, either_not, need_so, need_not, there, refusal_need}
+use Rattle.text.proofs.Readings.{there, refusal_need}
 use Rattle.text.proofs.Tests.{never, not_some}
 use Rattle.text.proofs.Yields.{Yields, yields_only, yields_either, yields_need}
 use Rattle.numeral.specs.Numeral.{float_of, is_numeral, numeral_text}
@@ -32,9 +29,6 @@ use Rattle.unsolicited.specs.Undated.{field_of, Undated}
 use Rattle.unsolicited.specs.Written.{Says}
 use Rattle.unsolicited.proofs.Written.{read_so}
 use Rattle.unsolicited.proofs.Written.{said as said-so}
-use Rattle.unsolicited.specs.says.Gnss.{date_says, date_option_says, fix_says, DateKeeps}
-use Rattle.unsolicited.specs.declared.ugnsinf.DateTime.{DateTime}
-use Rattle.unsolicited.specs.declared.ugnsinf.GnssFix.{GnssFix}
 
 -- what the numeral's answer says of a float field
 pub float_said : (t s : List ℕ) (r : Std.Option Float) → NumeralKeeps t r → t ≡ s → option_said r ≡ float_of s
@@ -51,7 +45,7 @@ cond_and : {A : Type 0} (a b : Bool) (x y : A) → cond (a && b) x y ≡ cond a 
 cond_and true b x y = refl
 cond_and false b x y = refl
 
--- `refusal_on`: of the same twelve, whether each is there
+-- `is_readable`: of the twelve, whether each is there
 asked : {A : Type 0} (t : Bool) (j : ℕ) (o : Option A) (f : A → Reading Report) → t ≡ present o → ((a : A) → j ≡ refusal_in (f a)) → cond t j 3 ≡ refusal_in (need o f)
 asked t j o f e h = ap (λ (x : Bool). cond x j 3) e ∙ refusal_need 3 j o f h
 
@@ -66,45 +60,6 @@ module _ (fs : List (List ℕ)) (la lo al sp co hd pd vd iv gn gl ra : Bool)
       simp cond_and
       (asked la _ _ _ e1 (λ a. asked lo _ _ _ e2 (λ b. asked al _ _ _ e3 (λ c. asked sp _ _ _ e4 (λ d. asked co _ _ _ e5 (λ e. asked hd _ _ _ e6 (λ f.
       asked pd _ _ _ e7 (λ g. asked vd _ _ _ e8 (λ h. asked iv _ _ _ e9 (λ i. asked gn _ _ _ e10 (λ j. asked gl _ _ _ e11 (λ k. asked ra _ _ _ e12 (λ l. refl)))))))))))))
-
--- `gnss_fix`: what `DateTime::new` answers to the field under the name t, and what is read then
-module _ (fs : List (List ℕ)) (t : List ℕ) (o : Std.Option DateTime) (keeps : DateKeeps t o) (is : t ≡ nth 2 fs) where
-  pub date_is : date_option_says o ≡ date_of (nth 2 fs)
-  date_is = keeps ∙ ap date_of is
-
-  pub undated_fix : o ≡ Std.None → refused 13 ≡ fix_of fs
-  unfolding fix_of
-  undated_fix e = need_not 13 (date_of (nth 2 fs)) _ (ap date_option_says (sym e) ∙ date_is)
-
-  pub dated_fix : (d : DateTime) → o ≡ Std.Some d → (q : Reading Report) → q ≡ fix_on (date_says d) fs → q ≡ fix_of fs
-  unfolding fix_of
-  dated_fix d e q h = need_so 13 (date_of (nth 2 fs)) (date_says d) _ q (ap date_option_says (sym e) ∙ date_is) h
-
--- the fix that the code has as m
-module _ (x : Reading Report) (m : Std.Option GnssFix) (said : need (option_mapped fix_says m) (λ f. read (fix f)) ≡ x) where
-  pub fix_none : m ≡ Std.None → refused 3 ≡ x
-  unfolding need_else
-  fix_none e = rw e at said
-
-  pub fix_some : (f : GnssFix) → m ≡ Std.Some f → read (fix (fix_says f)) ≡ x
-  unfolding need_else
-  fix_some f e = rw e at said
-
--- `report_refusal`: whether there is a date, and the refusal k of what follows, whichever date that is
-module _ (fs : List (List ℕ)) (o : Std.Option DateTime) (said : date_option_says o ≡ date_of (nth 2 fs)) where
-  pub undated_refusal : is_some o ≡ false → 13 ≡ refusal_in (fix_of fs)
-  undated_refusal h = go o said h
-    where
-      go : (o : Std.Option DateTime) → date_option_says o ≡ date_of (nth 2 fs) → is_some o ≡ false → 13 ≡ refusal_in (fix_of fs)
-      go Std.None said h = ap refusal_in (undated_fix fs (nth 2 fs) Std.None said refl refl)
-      go (Std.Some d) said h = never (cc)
-
-  pub dated_refusal : is_some o ≡ true → (k : ℕ) → ((d : Date) → k ≡ refusal_in (fix_on d fs)) → k ≡ refusal_in (fix_of fs)
-  dated_refusal h k f = go o said h
-    where
-      go : (o : Std.Option DateTime) → date_option_says o ≡ date_of (nth 2 fs) → is_some o ≡ true → k ≡ refusal_in (fix_of fs)
-      go Std.None said h = never (cc)
-      go (Std.Some d) said h = f (date_says d) ∙ ap refusal_in (dated_fix fs (nth 2 fs) (Std.Some d) said refl d refl _ refl)
 
 -- a field that may be empty, which the code has under the name t
 module _ {A : Type 0} (z : A) (reads : List ℕ → Option A) (t s : List ℕ) (is : t ≡ s) where
@@ -153,27 +108,6 @@ module _ (s ps : List ℕ) (starts : FieldStartsKeeps s ps) where
   all_there h l = let a = starts_in s ps starts 20 (omega arith) h in let b = starts_past s ps starts 21 (omega arith) l in record { count = omega arith; starts = starts }
 
 pub ruleset places = (too_few, too_many, all_there)
-
--- the report of so many
-module _ (fs : List (List ℕ)) where
-  pub not_21 : (length fs ≡ 21 → ⊥) → refused 3 ≡ ugnsinf_fields fs
-  unfolding ugnsinf_fields
-  not_21 h = only_else (length fs) (length fs) 21 _ refl h
-
-  -- by the code's tests x and y of the two statuses
-  module _ (h : length fs ≡ 21) (x : Bool) (run : x ≡ same (nth 0 fs) (bytes "1")) where
-    pub off : x ≡ false → read not_enabled ≡ ugnsinf_fields fs
-    unfolding ugnsinf_fields
-    off n = only_is (length fs) (length fs) 21 _ _ refl h (either_not _ x _ _ _ run n refl)
-
-    module _ (on : x ≡ true) (y : Bool) (status : y ≡ same (nth 1 fs) (bytes "1")) where
-      pub without_fix : y ≡ false → (o : Option ℕ) → o ≡ unsigned 10 4294967295 (nth 14 fs) → read (no_fix o) ≡ ugnsinf_fields fs
-      unfolding ugnsinf_fields
-      without_fix n o e = only_is (length fs) (length fs) 21 _ _ refl h (either_so _ x _ _ _ run on (either_not _ y _ _ _ status n (rw e)))
-
-      pub with_fix : y ≡ true → fix_of fs ≡ ugnsinf_fields fs
-      unfolding ugnsinf_fields
-      with_fix n = only_is (length fs) (length fs) 21 _ _ refl h (either_so _ x _ _ _ run on (either_so _ y _ _ _ status n refl))
 
 -- a report that is read has the date of its third field, where it has a fix; what is refused is refused with 3, and with 13 for want of such a date
 abbrev pub Dated : List ℕ → Report → Type 0

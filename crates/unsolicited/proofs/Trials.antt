@@ -1,15 +1,9 @@
 -- A trial of readers that refuse with 3 alone. Assumes nothing.
-use mathlib.Core.Path.{◌≡◌, sym, subst}
-use mathlib.Core.List.{List, ◌∷◌}
+use mathlib.Core.Path.{◌≡◌}
 use Prim.Native.Nat.{ℕ}
-use Rattle.text.specs.Reading.{Reading, refused, first_of}
-use Rattle.text.proofs.Readings.{first_else}
+use Rattle.text.specs.Reading.{Reading}
 use Rattle.text.proofs.Yields.{Yields}
 
 -- it is no refusal but 3
 abbrev pub Plain : {A : Type 0} → Reading A → Type 0
 Plain {A} r = Yields (λ (a : A). Unit {0}) (λ (k : ℕ). k ≡ 3) r
-
--- one that refuses leaves it to those behind it
-pub plain_else : {A : Type 0} (x : Reading A) → Plain x → (rs : List (Reading A)) (q : Reading A) (k : ℕ) → refused k ≡ x → q ≡ first_of 3 rs → q ≡ first_of 3 (x ∷ rs)
-plain_else x plain rs q k e h = let z : k ≡ 3 = subst Plain (sym e) plain in first_else 3 x rs k 3 q e (sym z) h

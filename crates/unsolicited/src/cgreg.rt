@@ -14,7 +14,7 @@ use text::refusal::Refusal;
 pub struct CGReg;
 
 impl CGReg {
-    #[tactic(auto, using(crate::proofs::Registrations::cgreg))]
+    #[tactic(auto, unfolding(text::specs::Reading::only, crate::specs::Registration::cgreg_text))]
     pub(crate) fn from_checked(line: &[u8]) -> Result<NetworkRegistration, Refusal>
         ensures { says result ≡ cgreg_text line.now }
     {
@@ -31,7 +31,7 @@ impl CGReg {
     }
 
     // The answer of `from_checked` with its value forgotten.
-    #[tactic(auto, using(crate::proofs::Registrations::cgreg))]
+    #[tactic(auto, unfolding(text::specs::Reading::only, crate::specs::Registration::cgreg_text))]
     pub(crate) fn refusal_checked(line: &[u8]) -> Result<(), Refusal>
         ensures { refusal_said result ≡ refusal_in (cgreg_text line.now) }
     {

@@ -14,7 +14,7 @@ use text::refusal::Refusal;
 pub struct CReg;
 
 impl CReg {
-    #[tactic(auto, using(crate::proofs::Registrations::creg))]
+    #[tactic(auto, using(crate::proofs::Registrations::fields_five), unfolding(text::specs::Reading::only, crate::specs::Registration::creg_text))]
     pub(crate) fn from_checked(line: &[u8]) -> Result<NetworkRegistration, Refusal>
         ensures { says result ≡ creg_text line.now }
     {
@@ -31,7 +31,7 @@ impl CReg {
     }
 
     // The answer of `from_checked` with its value forgotten.
-    #[tactic(auto, using(crate::proofs::Registrations::creg))]
+    #[tactic(auto, using(crate::proofs::Registrations::fields_five), unfolding(text::specs::Reading::only, crate::specs::Registration::creg_text))]
     pub(crate) fn refusal_checked(line: &[u8]) -> Result<(), Refusal>
         ensures { refusal_said result ≡ refusal_in (creg_text line.now) }
     {

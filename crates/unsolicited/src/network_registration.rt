@@ -18,12 +18,12 @@ use text::{field, line, number, part, reader};
 
 #[derive(Clone, Copy, Debug, PartialEq, Eq)]
 pub enum RegistrationStatus {
-    NotRegistered,
-    RegisteredHome,
-    Searching,
-    RegistrationDenied,
-    Unknown,
-    RegisteredRoaming,
+    NotRegistered = 0,
+    RegisteredHome = 1,
+    Searching = 2,
+    RegistrationDenied = 3,
+    Unknown = 4,
+    RegisteredRoaming = 5,
 }
 
 #[derive(Clone, Copy, Debug, PartialEq, Eq)]
@@ -111,6 +111,7 @@ pub(crate) fn refusal(rest: &[u8], longest: usize) -> Result<(), Refusal>
 }
 
 impl NetworkRegistration {
+    #[tactic(auto, using(crate::proofs::Registrations::plain_creg, crate::proofs::Registrations::plain_cgreg), unfolding(text::specs::Reading::first_of, crate::specs::Registration::registration_text))]
     pub(crate) fn from_checked(line: &[u8]) -> Result<NetworkRegistration, Refusal>
         ensures { says result ≡ registration_text line.now }
     {

@@ -6,6 +6,7 @@ ghost use Rattle.text.specs.says.Refusal.{number_of};
 use text::refusal::Refusal;
 
 // What follows the prefix.
+#[tactic(auto, using(crate::proofs::Stripped::stripped))]
 pub(crate) fn behind<'a>(line: &'a [u8], prefix: &[u8]) -> Result<&'a [u8], Refusal>
     ensures { MatchResult result
         (λ rest. (starts_with prefix.now line.now ≡ true) × (rest.now ≡ drop (length prefix.now) line.now))

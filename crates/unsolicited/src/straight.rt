@@ -36,6 +36,7 @@ pub fn read_at(place: usize, line: &[u8]) -> Result<Urc, Refusal>
     checked_at(place, line)
 }
 
+#[tactic(auto, unfolding(text::specs::Reading::mapped, crate::specs::Urc::urc_readings, crate::specs::Urc::urc_reading_at), using(crate::proofs::ByPlace::past_last))]
 fn refusal_checked_at(place: usize, line: &[u8]) -> Result<(), Refusal>
     ensures { refusal_said result ≡ refusal_in (urc_reading_at place line.now) }
 {

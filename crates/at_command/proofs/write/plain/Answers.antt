@@ -7,4 +7,4 @@ pub returns-then-out-command : goal.returns-then-out-command
 returns-then-out-command c = no_room c.args.command.now _ _ refl c.if-out-command.true
 
 pub returns : goal.returns
-returns c = laid _ _ _ _ c.lay.ensures
+returns c = laid _ _ _ _ c.if-out-command.false c.lay.ensures

@@ -1,5 +1,5 @@
--- `leave` meets its contract, by the answer's cases.
+-- `leave` meets its contract: the numbers of the state after an open that is answered.
 use Rattle.sim7000.proofs.parts.leave.Goals as goal
 
-pub returns-in-Ok : goal.returns-in-Ok
-returns-in-Ok c = λ line sent out. rw (c.in-Ok.is, c.numbers_of.ensures line sent)
+pub returns : goal.returns
+returns c = λ line sent out. rw (c.in_ok-size.was, c.numbers_of.ensures line sent)

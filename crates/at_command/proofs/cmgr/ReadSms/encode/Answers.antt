@@ -1,14 +1,12 @@
--- Three pieces are laid one behind the other. Assumes nothing.
-use native.Mathlib.Omega.{arith}
-use lib.ListN.{length-append}
-use Rattle.at_command.specs.Request.{read_sms, command_of}
-use Rattle.at_command.proofs.Laying.{lay_on}
-use Rattle.at_command.proofs.Writing.{no_room, laid}
+-- The command, piece by piece.
+use Rattle.std.proofs.Common.{refl, arith}
+use Rattle.at_command.specs.Request.{read_sms}
+use Rattle.at_command.proofs.Commands.{sends}
+use Rattle.at_command.proofs.Pieces.{nothing, on}
 use Rattle.at_command.proofs.cmgr.ReadSms.encode.Goals as goal
 
-pub returns-then-out-decimal_size : goal.returns-then-out-decimal_size
-returns-then-out-decimal_size c = no_room (command_of (read_sms c.args.self.index)) _ _ (simp length-append (omega arith)) c.if-out-decimal_size.true
-
 pub returns : goal.returns
-returns c =
-    laid _ _ _ _ (lay_on (lay_on c.lay-at.ensures c.lay_decimal-at.ensures) c.lay_byte.ensures)
+returns c = let a = c.args in
+    sends (read_sms a.self.index) _ _ _ _ (omega arith) refl
+    (on _ (on _ (on _ (nothing c.new-command.ensures) c.text.ensures) c.decimal.ensures) c.byte.ensures)
+    c.write_to.ensures

@@ -1,7 +1,0 @@
--- The pieces are laid one behind the other. Assumes nothing.
-use Rattle.at_command.proofs.Laying.{lay_on}
-use Rattle.at_command.proofs.cops.lay_manual.Goals as goal
-
-pub returns : goal.returns
-returns c =
-    lay_on (lay_on (lay_on c.lay-at.ensures c.lay-at-2.ensures) c.lay_byte-at.ensures) c.lay_byte.ensures

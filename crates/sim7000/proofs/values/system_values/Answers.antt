@@ -1,7 +1,0 @@
--- `system_values` meets its contract: each number is the one that the layout has at its place.
-use mathlib.Core.Path.{refl}
-use Rattle.sim7000.proofs.Rows.{filled}
-use Rattle.sim7000.proofs.values.system_values.Goals as goal
-
-pub returns : goal.returns
-returns c = filled _ _ _ _ _ _ c.row.ensures _ _ _ _ _ c.system_mode-a.ensures c.operation_mode-b.ensures refl refl refl
