@@ -1,7 +1,7 @@
 -- Laws of cutting: one byte behind those that are held, on paper and in the buffer.
 use Prim.Native.Nat.{ℕ, suc, ◌+◌, ◌-◌, ◌≤◌, ◌<◌}
 use mathlib.Core.Path.{◌≡◌, refl, sym, ap, ◌∙◌}
-use mathlib.Core.Bool.{Bool, true, false, cond, ◌&&◌, not, and-true, and-false}
+use mathlib.Core.Bool.{Bool, true, false, cond, ◌&&◌, not, and-true}
 use mathlib.Core.Logic.{⊎_elim}
 use mathlib.Core.List.{List, [], ◌∷◌, ◌++◌}
 use mathlib.Core.Option.{Option, none, some}
@@ -14,7 +14,7 @@ use borrow.Author.Tests.{lt-ltb, le-ltb, ltb-false, eq-eqb, ne_eqb}
 use Rattle.text.specs.Bytes.{bytes, same, starts_with, ends_with}
 use Rattle.text.proofs.Begins.{same_is}
 use Rattle.text.proofs.Finding.{other_length}
-use Rattle.desk.specs.Cut.{View, dropping, held, Piece, nothing, blank, overlong, line, Cut, bare, long, is_prompt, ended, cut_one}
+use Rattle.desk.specs.Cut.{View, dropping, held, Piece, nothing, line, Cut, bare, long, is_prompt, ended, cut_one}
 use Rattle.desk.specs.Machine.{Step}
 use Rattle.desk.specs.Lines as L
 use Rattle.desk.specs.Lines.{Line, line_of}

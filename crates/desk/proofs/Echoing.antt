@@ -1,15 +1,13 @@
 -- A line is compared with the command that was sent, and with it without its CR, as the code does it.
-use Prim.Native.Nat.{ℕ, ◌-◌, ◌<◌}
+use Prim.Native.Nat.{ℕ, ◌-◌}
 use mathlib.Core.Path.{◌≡◌, sym, ap, ◌∙◌}
 use mathlib.Core.Bool.{Bool, true, false}
 use mathlib.Core.List.{List, [], ◌∷◌}
-use native.Mathlib.Omega.{arith}
 use lib.ListN.{length, take, drop}
 use lib.Dec.{eqb}
 use Rattle.std.specs.Cmp.Lexicographic.{pointwise}
 use Rattle.text.proofs.Finding.{same_is}
 use Rattle.text.specs.Bytes.{bytes, same, ends_with}
-use Rattle.text.proofs.Tests.{never}
 use Rattle.desk.specs.Cut.{bare}
 use Rattle.desk.specs.Judge.{is_echo}
 

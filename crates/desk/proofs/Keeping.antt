@@ -1,5 +1,5 @@
 -- A command that is kept is read back: what the desk keeps after a line, or after an open, is the command that the rules have there.
-use Prim.Native.Nat.{ℕ, suc, ◌≤◌, ◌<◌}
+use Prim.Native.Nat.{ℕ, suc, ◌<◌}
 use mathlib.Core.Path.{◌≡◌, refl, sym, ap, ◌∙◌}
 use mathlib.Core.Bool.{true, false}
 use mathlib.Core.Logic.{⊎_elim}
@@ -10,7 +10,7 @@ use native.Mathlib.Omega.{arith}
 use lib.ListN.{length, take, drop, length-append, length-take}
 use lib.Seq.{length-take-le, take-append_seam}
 use lib.Dec.{ltb, eqb}
-use borrow.Author.Tests.{le-ltb, ltb-false, eqb-true, eqb-false, ne_eqb}
+use borrow.Author.Tests.{le-ltb, ltb-false, eqb-false, ne_eqb}
 use Rattle.text.specs.Reading.{Reading}
 use Rattle.text.proofs.Tests.{both}
 use Rattle.trial.specs.Sort.{Sort, line_sort}
@@ -56,13 +56,6 @@ module _ (sent : List ℕ) (size : ℕ) where
   echo_again : echo_in sent (size_in (echo_in sent size)) ≡ echo_in sent size
   echo_again =
       echo_cases (λ o. echo_in sent (size_in o) ≡ o) refl (λ h e. rw (e, ne_eqb size 0 (λ z. omega arith), le-ltb (length sent) size (omega (arith, length-take size sent))))
-
-  pub size_none : length sent < size → 0 ≡ size_in (echo_in sent size)
-  size_none h = echo_cases (λ o. 0 ≡ size_in o) refl (λ m e. absurd (omega (arith, length-take size sent)))
-
-  pub size_some : size ≤ length sent → size ≡ size_in (echo_in sent size)
-  size_some h =
-      ⊎_elim (λ (e : eqb size 0 ≡ true). rw e (eqb-true size 0 e)) (λ (e : eqb size 0 ≡ false). rw (e, le-ltb (length sent) size h) (sym (length-take-le size sent h))) (both (eqb size 0))
 
 -- what is kept after a line is the command after it
 pub keep_judged : (k : Kept) (l : Line) → command_kept (judge_kept k l).command ≡ (judge line_sort (command_kept k) l).command

@@ -1,7 +1,7 @@
 -- Laws of a search through a chunk: its turns, the bytes that are laid at once, and the bytes with no LF.
 use Prim.Native.Nat.{ℕ, zero, suc, min, ◌+◌, ◌-◌, ◌≤◌, ◌<◌}
 use mathlib.Core.Path.{◌≡◌, refl, sym, ap, ◌∙◌}
-use mathlib.Core.Bool.{Bool, true, false, ◌||◌}
+use mathlib.Core.Bool.{Bool, true, false}
 use mathlib.Core.Logic.{⊎_elim}
 use mathlib.Core.List.{List, [], ◌∷◌, ◌++◌}
 use mathlib.Core.Option.{Option, none, some}
@@ -12,11 +12,9 @@ use lib.ListN.{length, take, drop, get_or, set, length-set, length-drop, drop_of
 use Rattle.text.specs.Copy.{LayKeeps}
 use Rattle.text.proofs.Copying.{whole_holds}
 use Rattle.std.proofs.lemmas.List.{take-take, get_or-drop}
-use Rattle.text.proofs.Parts.{index_le}
-use Rattle.text.specs.Bytes.{index_of}
 use lib.Seq.{length-take-le, drop-cons, get_or-take, get_or-set_same, paste, paste-zero, paste-suc}
-use lib.Dec.{ltb, eqb}
-use borrow.Author.Tests.{eq-eqb, eqb-true, eqb-false}
+use lib.Dec.{eqb}
+use borrow.Author.Tests.{eqb-true, eqb-false}
 use Rattle.desk.specs.Cut.{is_prompt}
 use Rattle.desk.specs.Machine.{Step, Stop, onward, feed}
 use Rattle.desk.specs.Lines.{Line}
@@ -25,7 +23,7 @@ use Rattle.desk.specs.Says.{found_line}
 use Rattle.desk.specs.declared.cutter.Piece.{Piece as PieceCode}
 use Rattle.desk.specs.declared.cutter.Piece.TheVariants as C
 use Rattle.desk.specs.Search.{tray_of, found_after, Filled, Plain}
-use Rattle.text.proofs.Tests.{both, neither, never}
+use Rattle.text.proofs.Tests.{both, never}
 use Rattle.desk.proofs.Cutting.{past_below, prompt_first, prompt_far, push_more}
 
 -- ---- one byte more
@@ -78,23 +76,6 @@ module _ (chunk : List ℕ) (i : ℕ) (t : Tray) where
     search_on g = rw (drop-cons chunk i 0 more, e, add-one i) (rw (add-one i) at (found_on i t (get_or chunk i 0) (drop (suc i) chunk) (rw e at g)))
 
 -- ---- bytes laid, none of them an LF or part of a prompt
-
--- no b stands before the first
-pub before_found : (b : ℕ) (s : List ℕ) {n : ℕ} → n ≡ 0 + index_of b s → (n ≤ length s) × ((k : ℕ) → k < n → get_or s k 0 ≡ b → ⊥)
-before_found b s {n} is = (omega (arith, index_le b s), λ k h. go s k (omega arith))
-  where
-    go : (l : List ℕ) (k : ℕ) → k < index_of b l → get_or l k 0 ≡ b → ⊥
-    go [] k h e = omega arith
-    go (x ∷ l) zero h e = let f = rw (eq-eqb x b e) at h in omega arith
-    go (x ∷ l) (suc k) h e =
-        ⊎_elim (λ (f : eqb x b ≡ true). let g = rw f at h in omega arith) (λ (f : eqb x b ≡ false). let g = rw f at h in go l k (omega arith) e) (both (eqb x b))
-
-module _ {s : List ℕ} {len b : ℕ} where
-  pub plain_none : len ≡ 0 → eqb b 62 ≡ false → Plain s len b
-  plain_none z e = record { first = λ _ f. eqb-false b 62 e f; second = λ one f. omega arith }
-
-  pub plain_one : len ≡ 1 → eqb (get_or s 0 0) 62 ≡ false → Plain s len b
-  plain_one z e = record { first = λ none f. omega arith; second = λ _ f. eqb-false (get_or s 0 0) 62 e f }
 
 plain_push : (s : List ℕ) (len b : ℕ) → length s ≡ 257 → len < 256 → Plain s len b → false ≡ is_prompt (take len s ++ b ∷ [])
 plain_push s len b full room p =

@@ -1,5 +1,5 @@
 -- What the private functions of a feed say: a search from a tray, bytes laid in it, bytes with no LF among them, and what is made of a line.
-use Rattle.std.specs.Prelude.{ℕ, ◌+◌, ◌-◌, ◌≤◌, ◌<◌, ◌≡◌, Bool, false, List, [], ◌∷◌, ◌++◌, length, drop, get_or}
+use Rattle.std.specs.Prelude.{ℕ, ◌+◌, ◌-◌, ◌≤◌, ◌≡◌, Bool, false, List, [], ◌∷◌, ◌++◌, length, drop, get_or}
 use Rattle.std.proofs.Math.Option.{Option, map}
 use Rattle.text.specs.Reading.{Reading, read}
 use Rattle.at_command.specs.Kind.{Kind}

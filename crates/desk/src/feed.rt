@@ -103,6 +103,7 @@ fn rule(
 }
 
 // A feed on a desk that is lent in parts: no array is copied.
+#[tactic(auto, using(crate::proofs::Feeding::found_size, crate::proofs::Feeding::fed_refused))]
 pub fn feed_on(
     line: &mut [u8; 257],
     state: State,

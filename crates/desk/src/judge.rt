@@ -43,6 +43,7 @@ fn next_of(awaits: Awaits) -> (ResponseKind, Judged)
 }
 
 // A response, to the command that is open or to none.
+#[tactic(auto, using(crate::proofs::Judging::table_tested), unfolding(crate::specs::Judge::table))]
 fn respond(command: Option<Awaits>, kind: ResponseKind) -> Judged
     ensures { ruling_says result ≡ table (command_says command) (read (response (kind_says kind))) }
 {

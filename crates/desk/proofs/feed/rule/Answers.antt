@@ -1,7 +1,7 @@
 -- `rule` meets its contract, by the piece.
-use mathlib.Core.Path.{refl, sym}
+use mathlib.Core.Path.{refl}
 use Rattle.desk.specs.Says.{kept_says}
-use Rattle.desk.proofs.Feeding.{ruled_none, ruled_overlong, ruled_line, laid_front}
+use Rattle.desk.proofs.Feeding.{ruled_overlong, ruled_line, laid_front}
 use Rattle.desk.proofs.Keeping.{overlong_keeps}
 use Rattle.desk.proofs.feed.rule.Goals as goal
 
