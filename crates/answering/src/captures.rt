@@ -127,7 +127,12 @@ impl Session {
         let room = room.min(text.len());
         match desk.feed_lent(chunk, &mut text[..room]) {
             Ok(Feed { taken, heard: None }) => Ok(taken),
-            Ok(Feed { taken, heard: Some(heard) }) => {
+            Ok(
+                Feed {
+                    taken,
+                    heard: Some(heard),
+                },
+            ) => {
                 say(heard, text, out)?;
                 Ok(taken)
             }
@@ -138,21 +143,26 @@ impl Session {
         }
     }
 
-    // Opens a request, in one mode or the other.
-    fn open<F>(&mut self, asked: &[u8], open: F, out: &mut impl Write) -> io::Result<()>
+    // Opens a request by a call of the desk, in one mode or the other.
+    fn open<F>(&mut self, asked: &[u8], opens: F, out: &mut impl Write) -> io::Result<()>
     where
         F: FnOnce(&mut Desk, Request, &[u8], &[u8], &mut [u8]) -> Result<usize, Refusal>,
-        requires { F.IsAlwaysCallable open }
+        requires { F.IsAlwaysCallable opens }
     {
         let Some(request) = commands::request_of(asked) else {
             return unknown(out);
         };
         let first = field::field(asked, b'\t', 1);
         let second = field::field(asked, b'\t', 2);
-        let Session { desk, command, room, .. } = self;
+        let Session {
+            desk,
+            command,
+            room,
+            ..
+        } = self;
         let command = &mut command[..];
         let room = (*room).min(command.len());
-        match open(desk, request, first, second, &mut command[..room]) {
+        match opens(desk, request, first, second, &mut command[..room]) {
             Ok(n) => writeln!(out, "open {}", Hex(part::part(command, 0, n))),
             Err(refusal) => writeln!(out, "{}", Refused(refusal)),
         }

@@ -34,8 +34,7 @@ pub(crate) fn request_of(line: &[u8]) -> Option<Request> {
             Some(Request::DownloadToFileSystem)
         }
         (Some(_), Some(timezone), Some(cid), None)
-            if bytes::is_text(name, b"SynchronizeNetworkTime") =>
-        {
+            if bytes::is_text(name, b"SynchronizeNetworkTime") => {
             let timezone = number::parse_u16(timezone)?;
             let cid = number::parse_u8(cid)?;
             Some(Request::SynchronizeNetworkTime { timezone, cid })

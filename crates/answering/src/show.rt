@@ -1,8 +1,7 @@
 // How the programs print a value.
-use std::fmt;
 use std::fmt::Display;
-use std::io;
 use std::io::Write;
+use std::{fmt, io};
 use text::refusal::Refusal;
 
 // A value, or `none` where the line lacks it.

@@ -12,7 +12,7 @@ use Rattle.desk.specs.Says.{answer_says, state_of, fed_lent_says}
 use Rattle.desk.specs.Keeps.{FeedLentKeeps}
 use Rattle.desk.specs.Demand.{accepts, taken_by}
 use Rattle.desk.specs.declared.Desk.{Desk}
-use Rattle.core.specs.declared.result.Result.{Result}
+use Rattle.std.specs.Prelude.{Result}
 use Rattle.text.specs.declared.refusal.Refusal.{Refusal}
 use Rattle.desk.specs.declared.feed.Feed.{Feed}
 use Rattle.desk.proofs.Machine.{feed_most, feed_some, feed_rest}

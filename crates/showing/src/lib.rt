@@ -52,7 +52,12 @@ fn told<W: Write>(out: &mut W, answer: Result<Feed, Refusal>, text: &[u8]) -> io
     ensures { IfOk result (λ n. n ≡ taken_by (answer_says answer)) }
 {
     match answer {
-        Ok(Feed { taken, heard: Some(heard) }) => {
+        Ok(
+            Feed {
+                taken,
+                heard: Some(heard),
+            },
+        ) => {
             say(out, heard, text)?;
             Ok(taken)
         }
@@ -99,7 +104,11 @@ fn show<R: Read, W: Write>(reader: &mut R, out: &mut W, mode: Mode) -> io::Resul
         desk = drain(out, desk, &buffer[..n])?;
         out.flush()?;
     }
-    let end = if desk.state.command.is_some() { "open" } else { "idle" };
+    let end = if desk.state.command.is_some() {
+        "open"
+    } else {
+        "idle"
+    };
     writeln!(out, "end {end}")?;
     out.flush()
 }
