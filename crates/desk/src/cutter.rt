@@ -1,4 +1,6 @@
-// Cutting a modem's bytes into lines, with no array copied.
+// Cutting a modem's bytes into lines, with no array copied. `line` is lent, and its first `len` bytes
+// are held. The two are no struct: one that holds the lent array is no plainer, since each method
+// would have to promise that the array behind it is still the same.
 ghost use Rattle.std.specs.Prelude.{ℕ, ◌≡◌, false, [], ◌∷◌, ◌++◌, ◌≤◌, ◌<◌, length, take, slice_index};
 ghost use Rattle.desk.specs.Cut.{bare, is_prompt, cut_one};
 ghost use Rattle.desk.specs.Lines.{line_of};

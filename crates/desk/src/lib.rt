@@ -59,6 +59,7 @@ pub enum Event {
 }
 
 impl Event {
+    // By a match, since `as` takes no enum of which a variant has a field.
     pub fn number(self) -> u64
         ensures { Gives (event_number (event_says self)) result }
     {
