@@ -1,4 +1,5 @@
-// The desk: a modem's bytes are cut into lines, and each line is an event of the open command, an unsolicited one or a stray.
+// The desk: a modem's bytes are cut into lines, and each line is an event of the open command, an
+// unsolicited one or a stray.
 #![tactic(auto)]
 
 ghost use Rattle.text.specs.Gives.{Gives};
