@@ -1,7 +1,7 @@
 -- `feed` meets its contract, by what the feed of the parts says.
 use mathlib.Core.Path.{ap}
 use Rattle.text.specs.says.Refusal.{refusal_said}
-use Rattle.unsolicited.proofs.Stripped.{exit}
+use Rattle.sim7000.proofs.Exits.{exit}
 use Rattle.desk.specs.Says.{answer_says}
 use Rattle.sim7000.specs.Parts.{feed_left}
 use Rattle.sim7000.proofs.Feeding.{feed_refused, feed_heard}

@@ -1,7 +1,7 @@
 -- `open` meets its contract: a request, or none, and the open of the parts.
 use mathlib.Core.Path.{refl, ◌∙◌}
 use Rattle.text.specs.says.Refusal.{refusal_said}
-use Rattle.unsolicited.proofs.Stripped.{exit_none, there_is}
+use Rattle.sim7000.proofs.Exits.{exit_none, there_is}
 use Rattle.desk.specs.Rules.{plain_mode}
 use Rattle.sim7000.specs.Command.{open_left}
 use Rattle.sim7000.proofs.Asking.{opens_none, opens_left}

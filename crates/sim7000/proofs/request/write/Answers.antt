@@ -1,7 +1,7 @@
 -- `write` meets its contract: a request, or none, and what its writer promises.
 use mathlib.Core.Path.{refl}
 use Rattle.text.specs.says.Refusal.{refusal_said}
-use Rattle.unsolicited.proofs.Stripped.{exit, exit_none, there_is}
+use Rattle.sim7000.proofs.Exits.{exit, exit_none, there_is}
 use Rattle.sim7000.specs.Command.{write_left}
 use Rattle.sim7000.proofs.Asking.{writes_none, writes_refused, writes_size}
 use Rattle.sim7000.proofs.request.write.Goals as goal
