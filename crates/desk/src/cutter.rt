@@ -1,4 +1,6 @@
-// Cutting a modem's bytes into lines, with no array copied.
+// Cutting a modem's bytes into lines, with no array copied. `line` is lent, and its first `len`
+// bytes are held. The two are no struct: one that holds the lent array is no plainer, since each
+// method would have to promise that the array behind it is still the same.
 ghost use Rattle.std.specs.Prelude.{ℕ, ◌≡◌, false, [], ◌∷◌, ◌++◌, ◌≤◌, ◌<◌, length, take, slice_index};
 ghost use Rattle.desk.specs.Cut.{bare, is_prompt, cut_one};
 ghost use Rattle.desk.specs.Lines.{line_of};
@@ -22,7 +24,8 @@ pub struct Pushed {
     pub piece: Option<Piece>,
 }
 
-// How a search ends: the bytes taken, how many are held after them, and what the search stopped at, if anything.
+// How a search ends: the bytes taken, how many are held after them, and what the search stopped at,
+// if anything.
 #[derive(Clone, Copy)]
 pub struct Found {
     pub taken: usize,
@@ -120,8 +123,9 @@ fn before_lf(s: &[u8]) -> usize
     memchr::memchr(b'\n', s).unwrap_or(s.len())
 }
 
-// Lays the bytes of chunk from at on behind the len that are held, up to an LF, the 256th byte or the chunk's end, and says how many.
-// None where a prompt may come of them: its bytes go one by one.
+// Lays the bytes of chunk from at on behind the len that are held, up to an LF, the 256th byte or
+// the chunk's end, and says how many. None where a prompt may come of them: its bytes go one by
+// one.
 fn fill(line: &mut [u8; 257], len: usize, chunk: &[u8], at: usize) -> usize
     ensures { Filled line.old len chunk.now at result line.new }
 {
@@ -135,7 +139,8 @@ fn fill(line: &mut [u8; 257], len: usize, chunk: &[u8], at: usize) -> usize
     n
 }
 
-// The search stops at the first byte that stops a feed; the count taken runs through that byte, or is the whole chunk.
+// The search stops at the first byte that stops a feed; the count taken runs through that byte, or
+// is the whole chunk.
 pub(crate) fn search(line: &mut [u8; 257], start: usize, chunk: &[u8]) -> Found
     ensures { found_says result line.new ≡ found_after 0 (tray_of line.old start) chunk.now }
 {

@@ -5,7 +5,8 @@ ghost use Rattle.desk.specs.Desk.{echo_in, size_in};
 
 use crate::cutter;
 
-// The size of the echo that is awaited, 0 where none is: a size above the bytes that are kept awaits none.
+// The size of the echo that is awaited, 0 where none is: a size above the bytes that are kept
+// awaits none.
 pub(crate) fn size_of(sent: &[u8], echo: usize) -> usize
     ensures { result ≡ size_in (echo_in sent.now echo) }
 {

@@ -12,7 +12,8 @@ use text::copy;
 use text::refusal::Refusal;
 use trial::straight;
 
-// An event, the ordinal of its line, and the line's size: the line is at the front of the text buffer.
+// An event, the ordinal of its line, and the line's size: the line is at the front of the text
+// buffer.
 #[derive(Clone, Copy)]
 pub struct Heard {
     pub event: Event,
@@ -41,7 +42,8 @@ pub struct FedParts {
     pub answer: Result<Feed, Refusal>,
 }
 
-// What a line is, and the state after it: the line that is awaited is Echo; any other before it is what it is to an idle desk; where no echo is awaited the table decides.
+// What a line is, and the state after it: the line that is awaited is Echo; any other before it is
+// what it is to an idle desk; where no echo is awaited the table decides.
 fn rule_line(state: State, sent: &[u8], line: &[u8]) -> (State, Event)
     ensures { Judges (kept_says sent.now state) line.now (kept_says sent.now result.0) (event_says result.1) × (result.0.len ≡ state.len) }
 {

@@ -1,4 +1,5 @@
-// A desk that is lent: it is handed to the by-value call, and what comes back is stored in its place.
+// A desk that is lent: it is handed to the by-value call, and what comes back is stored in its
+// place.
 ghost use Rattle.desk.specs.Keeps.{ResetKeeps, FeedLentKeeps, OpenLentKeeps};
 ghost use Rattle.desk.specs.Rules.{plain_mode, echo_mode};
 ghost use Rattle.desk.specs.Says.{mode_says};

@@ -1,4 +1,5 @@
-// The desk: a modem's bytes are cut into lines, and each line is an event of the open command, an unsolicited one or a stray.
+// The desk: a modem's bytes are cut into lines, and each line is an event of the open command, an
+// unsolicited one or a stray.
 #![tactic(auto)]
 
 ghost use Rattle.text.specs.Gives.{Gives};
@@ -59,6 +60,7 @@ pub enum Event {
 }
 
 impl Event {
+    // By a match, since `as` takes no enum of which a variant has a field.
     pub fn number(self) -> u64
         ensures { Gives (event_number (event_says self)) result }
     {

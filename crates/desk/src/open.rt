@@ -16,7 +16,8 @@ pub enum Mode {
     Echo,
 }
 
-// The size of the command that was written. Refused while a command is open or a line is held, and as the writer refuses.
+// The size of the command that was written. Refused while a command is open or a line is held, and
+// as the writer refuses.
 #[derive(Clone, Copy)]
 pub struct Opened {
     pub desk: Desk,
@@ -30,7 +31,8 @@ pub struct OpenedParts {
     pub answer: Result<usize, Refusal>,
 }
 
-// An open on a desk that is lent in parts: no open looks at the line's bytes, and this one not at what was sent.
+// An open on a desk that is lent in parts: no open looks at the line's bytes, and this one not at
+// what was sent.
 pub fn open_on(
     state: State,
     request: Request,
@@ -67,7 +69,8 @@ pub fn open_on(
     }
 }
 
-// The same in echo mode: what is written is kept, and awaited before the answers. Nothing is kept of an open that is refused.
+// The same in echo mode: what is written is kept, and awaited before the answers. Nothing is kept
+// of an open that is refused.
 pub fn open_echo_on(
     state: State,
     sent: &mut [u8; 210],

@@ -1,4 +1,5 @@
-// The desk set back: the command is closed, no echo is awaited, an unfinished line is forgotten, and lines are counted anew.
+// The desk set back: the command is closed, no echo is awaited, an unfinished line is forgotten,
+// and lines are counted anew.
 ghost use Rattle.desk.specs.Keeps.{ResetKeeps};
 
 use crate::{Desk, State};
