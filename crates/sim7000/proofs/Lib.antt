@@ -3,7 +3,6 @@ pub mod Commands
 pub mod Dates
 pub mod Demand
 pub mod Desks
-pub mod Exits
 pub mod Feeding
 pub mod Lives
 pub mod ManualOperator

@@ -1,6 +1,6 @@
 -- The number of the reader that takes a line, by which one it is.
-use Prim.Native.Nat.{ℕ, ◌+◌, ◌≤◌}
-use mathlib.Core.Path.{◌≡◌, refl, ap, sym, ◌∙◌}
+use Prim.Native.Nat.{ℕ, ◌+◌}
+use mathlib.Core.Path.{◌≡◌, refl, ap, ◌∙◌}
 use mathlib.Core.List.{List}
 use Rattle.text.specs.Reading.{Reading, read, refused, mapped}
 use Rattle.at_command.specs.Kind.{place_of}
@@ -8,7 +8,6 @@ use Rattle.unsolicited.specs.Urc as Urc
 use Rattle.trial.specs.Answer.{Said, response, unsolicited, line_said}
 use Rattle.trial.specs.Taker as T
 use Rattle.trial.specs.Taker.{Taker, taker_of, line_taker}
-use Rattle.trial.proofs.Order.{renamed, refusal_low}
 use Rattle.sim7000.specs.Reader.{sort_number}
 
 abbrev pub taker_number : Reading Taker → ℕ
@@ -27,7 +26,3 @@ module _ (l : List ℕ) (x : Reading Taker) (e : x ≡ line_taker l) where
       go (read (unsolicited (Urc.gnss r))) = refl
       go (read (unsolicited (Urc.registration r))) = refl
       go (refused k) = refl
-
-  pub taker_low : {k : ℕ} → x ≡ refused k → k ≤ 13
-  unfolding line_taker
-  taker_low {k} h = refusal_low l (sym (renamed taker_of (line_said l) k (sym e ∙ h)))

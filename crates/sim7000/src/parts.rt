@@ -41,6 +41,7 @@ fn leave(opened: OpenedParts, state: &mut [u64; 4], size: &mut u64) -> Result<()
 }
 
 // A number that is no request is refused with 3, before 8 and 9 too.
+#[tactic(auto, using(crate::proofs::Asking::opens_none))]
 fn open(
     state: &mut [u64; 4],
     request: Option<Request>,
@@ -76,6 +77,7 @@ pub extern "C" fn sim7000_open(
     status(open(state, request, first, second, out, size))
 }
 
+#[tactic(auto, using(crate::proofs::Asking::opens_none))]
 fn open_echo(
     state: &mut [u64; 4],
     sent: &mut [u8; 210],

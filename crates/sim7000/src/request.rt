@@ -47,6 +47,7 @@ pub(crate) fn request_in(request: u8, number: u16, code: u8) -> Option<Request>
 }
 
 // A number that is no request is refused with 3.
+#[tactic(auto, using(crate::proofs::Asking::writes_none))]
 fn write(
     request: Option<Request>,
     first: &[u8],
