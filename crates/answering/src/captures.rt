@@ -1,7 +1,7 @@
 // Plays a capture on a desk of its own: a line of steps, in the script language of oracle/README.md. Each event is printed on a line of its own.
 use crate::commands::LONGEST;
 use crate::show::{Hex, Refused};
-use crate::{Answer, commands, hex};
+use crate::{commands, hex};
 use at_command::request::Request;
 use console::said::Said;
 use desk::{Desk, Feed, Heard, State};
@@ -10,27 +10,22 @@ use std::io::Write;
 use text::refusal::Refusal;
 use text::{field, part};
 
-#[derive(Clone, Copy)]
-pub struct Captures;
-
-impl Answer for Captures {
-    fn answer<W: Write>(&self, line: &[u8], out: &mut W) -> io::Result<()> {
-        // a line of which some bytes may be gone (see console::input) is no step
-        let line = if line.len() <= LONGEST { line } else { b"" };
-        let mut steps = line.split(|byte| *byte == b' ');
-        let mut session = Session::new();
-        if let Some(first) = steps.next() {
-            session.begin(first, out)?;
-        }
-        for step in steps {
-            session.step(step, out)?;
-        }
-        let end = match session.desk.state.command {
-            Some(_) => "open",
-            None => "idle",
-        };
-        write!(out, "end {end}")
+pub(crate) fn answer(out: &mut impl Write, line: &[u8]) -> io::Result<()> {
+    // a line of which some bytes may be gone (see console::input) is no step
+    let line = if line.len() <= LONGEST { line } else { b"" };
+    let mut steps = line.split(|byte| *byte == b' ');
+    let mut session = Session::new();
+    if let Some(first) = steps.next() {
+        session.begin(first, out)?;
     }
+    for step in steps {
+        session.step(step, out)?;
+    }
+    let end = match session.desk.state.command {
+        Some(_) => "open",
+        None => "idle",
+    };
+    write!(out, "end {end}")
 }
 
 // A desk, what its feeds and its opens are lent, and how many bytes an open gets of that.

@@ -1,6 +1,5 @@
 // Writes commands: for a request, its fields parted by one TAB, the command's bytes, `refused` and the number, or `unknown` where the line is no request.
 // A CR is a byte of the request.
-use crate::Answer;
 use crate::show::Refused;
 use at_command::cmgf::SmsMessageFormat;
 use at_command::request::Request;
@@ -11,15 +10,10 @@ use text::{bytes, field, number, part};
 // A longer line is unknown: of one that long some bytes may be gone (see console::input).
 pub(crate) const LONGEST: usize = 32767;
 
-#[derive(Clone, Copy)]
-pub struct Commands;
-
-impl Answer for Commands {
-    fn answer<W: Write>(&self, line: &[u8], out: &mut W) -> io::Result<()> {
-        match request_of(line) {
-            Some(request) if line.len() <= LONGEST => command(out, request, line),
-            _ => write!(out, "unknown"),
-        }
+pub(crate) fn answer(out: &mut impl Write, line: &[u8]) -> io::Result<()> {
+    match request_of(line) {
+        Some(request) if line.len() <= LONGEST => command(out, request, line),
+        _ => write!(out, "unknown"),
     }
 }
 

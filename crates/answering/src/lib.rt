@@ -3,28 +3,24 @@
 #![tactic(auto)]
 
 use console::input;
-use console::output::Output;
+use console::input::{FIRST, Turn};
+use std::io;
 use std::io::{Input, Print, Read, Write};
+use text::part;
 
 mod captures;
 mod commands;
 mod hex;
 mod lines;
+mod output;
 mod show;
 mod vectors;
 
-pub use captures::Captures;
-pub use commands::Commands;
-pub use lines::Lines;
-pub use vectors::Vectors;
+use output::Output;
 
-// A program that answers line by line.
-pub trait Answer {
-    // Writes the answer to a line, without the LF at its end.
-    fn answer<W: Write>(&self, line: &[u8], out: &mut W) -> std::io::Result<()>;
-}
+// How many bytes are read ahead at most.
+const SIZE: usize = 65536;
 
-// One of the four, where which one is a value.
 #[derive(Clone, Copy)]
 pub enum Program {
     Lines,
@@ -33,42 +29,45 @@ pub enum Program {
     Vectors,
 }
 
-impl Answer for Program {
-    fn answer<W: Write>(&self, line: &[u8], out: &mut W) -> std::io::Result<()> {
+impl Program {
+    // Writes the answer to a line, without the LF at its end.
+    fn answer(self, out: &mut impl Write, line: &[u8]) -> io::Result<()> {
         match self {
-            Program::Lines => Lines.answer(line, out),
-            Program::Commands => Commands.answer(line, out),
-            Program::Captures => Captures.answer(line, out),
-            Program::Vectors => Vectors.answer(line, out),
+            Program::Lines => lines::answer(out, line),
+            Program::Commands => commands::answer(out, line),
+            Program::Captures => captures::answer(out, line),
+            Program::Vectors => vectors::answer(out, line),
         }
     }
 }
 
-// Answers each line of a reader. Where a read fails, what is answered by then is written first.
-fn answer_all<R: Read + Drop, W: Write + Drop>(
-    program: &impl Answer,
-    reader: R,
+// Answers each line of a reader. At the end, and where a read fails, what is answered by then is
+// written first.
+fn answer_all<R: Read, W: Write + Drop>(
+    program: Program,
+    reader: &mut R,
     writer: W,
-) -> std::io::Result<()> {
-    let mut lines = input::Lines::new(reader);
+) -> io::Result<()> {
     let mut out = Output::new(writer);
+    let mut buffer = [0u8; SIZE];
+    let mut turn = FIRST;
     // no input has more lines
     for _ in 0..u64::MAX {
-        match lines.next_line() {
-            Ok(Some(line)) => {
-                program.answer(line, &mut out)?;
-                writeln!(out)?;
-            }
-            Ok(None) => return out.flush(),
-            Err(error) => {
-                out.flush()?;
-                return Err(error);
-            }
+        let before = Turn {
+            at: out.waiting,
+            ..turn
+        };
+        turn = input::next_turn(reader, &mut out.writer, &mut buffer, &out.buffer, before)?;
+        if turn.left == 0 {
+            break;
         }
+        let line = part::part(&buffer, turn.line.start, turn.line.end);
+        program.answer(&mut out, line)?;
+        writeln!(out)?;
     }
-    out.flush()
+    Ok(())
 }
 
-pub fn run(rt: &(impl Input + Print), program: impl Answer + Drop) -> std::io::Result<()> {
-    answer_all(&program, rt.reader(), std::io::writer(rt))
+pub fn run(rt: &(impl Input + Print), program: Program) -> io::Result<()> {
+    answer_all(program, &mut rt.reader(), io::writer(rt))
 }

@@ -1,5 +1,4 @@
 // Says what a line says, in the formats of oracle/README.md. One CR at its end goes.
-use crate::Answer;
 use crate::show::{Bits, OrNone, Refused, quoted};
 use at_command::ResponseCode;
 use at_command::generic_response::SimError;
@@ -12,18 +11,13 @@ use unsolicited::Urc;
 use unsolicited::network_registration::NetworkRegistration;
 use unsolicited::ugnsinf::{GnssFix, GnssReport};
 
-#[derive(Clone, Copy)]
-pub struct Lines;
-
-impl Answer for Lines {
-    fn answer<W: Write>(&self, line: &[u8], out: &mut W) -> io::Result<()> {
-        let line = line.strip_suffix(b"\r").unwrap_or(line);
-        match straight::said(line) {
-            Ok(Line::Response(code)) => response(out, line, code),
-            Ok(Line::Unsolicited(Urc::GnssReport(report))) => gnss_report(out, report),
-            Ok(Line::Unsolicited(Urc::NetworkRegistration(found))) => registration(out, found),
-            Err(refusal) => write!(out, "{}", Refused(refusal)),
-        }
+pub(crate) fn answer(out: &mut impl Write, line: &[u8]) -> io::Result<()> {
+    let line = line.strip_suffix(b"\r").unwrap_or(line);
+    match straight::said(line) {
+        Ok(Line::Response(code)) => response(out, line, code),
+        Ok(Line::Unsolicited(Urc::GnssReport(report))) => gnss_report(out, report),
+        Ok(Line::Unsolicited(Urc::NetworkRegistration(found))) => registration(out, found),
+        Err(refusal) => write!(out, "{}", Refused(refusal)),
     }
 }
 

@@ -1,6 +1,6 @@
 // Replays outside vectors: for a kind, a TAB and a text in hexadecimal, what the reader of that kind says of the text. oracle/README.md has the kinds, and where the vectors are from.
+use crate::hex;
 use crate::show::{Bits, Hex, OrNone, Refused};
-use crate::{Answer, hex};
 use at_command::cmgr::SmsMessage;
 use at_command::cntp::NetworkTime;
 use at_command::cops::OperatorInfo;
@@ -11,16 +11,11 @@ use std::io::Write;
 use text::refusal::Refusal;
 use text::{field, number, utf8};
 
-#[derive(Clone, Copy)]
-pub struct Vectors;
-
-impl Answer for Vectors {
-    fn answer<W: Write>(&self, line: &[u8], out: &mut W) -> io::Result<()> {
-        let mut bytes = [0u8; 4096];
-        match hex::decode(field::field(line, b'\t', 1), &mut bytes) {
-            Some(text) => read(out, field::field(line, b'\t', 0), text),
-            None => write!(out, "unknown"),
-        }
+pub(crate) fn answer(out: &mut impl Write, line: &[u8]) -> io::Result<()> {
+    let mut bytes = [0u8; 4096];
+    match hex::decode(field::field(line, b'\t', 1), &mut bytes) {
+        Some(text) => read(out, field::field(line, b'\t', 0), text),
+        None => write!(out, "unknown"),
     }
 }
 

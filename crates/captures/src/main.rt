@@ -1,8 +1,8 @@
 // Plays each line of standard input, a capture, on a desk of its own, in the script language of oracle/README.md.
 #![tactic(auto)]
 
-use answering::Captures;
+use answering::Program;
 
 fn main(rt: HostRuntime) -> std::io::Result<()> {
-    answering::run(&rt, Captures)
+    answering::run(&rt, Program::Captures)
 }

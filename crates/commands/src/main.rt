@@ -1,8 +1,8 @@
 // Writes the command of each request of standard input.
 #![tactic(auto)]
 
-use answering::Commands;
+use answering::Program;
 
 fn main(rt: HostRuntime) -> std::io::Result<()> {
-    answering::run(&rt, Commands)
+    answering::run(&rt, Program::Commands)
 }

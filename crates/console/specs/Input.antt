@@ -13,7 +13,3 @@ NextTurnKeeps turn next buffer = (next.left ≤ turn.left - 1) × (next.line.sta
 -- the buffer that lines are cut in has as many bytes as before, whether or not a read or a write failed
 abbrev pub KeepsSize : List ℕ → List ℕ → Type 0
 KeepsSize before after = length after ≡ length before
-
--- a line that is handed out has room in the buffer that it was cut in
-abbrev pub HasRoomFor : List ℕ → Type 0
-HasRoomFor line = length line ≤ 65536

@@ -1,49 +1,14 @@
 // Lines of a reader, cut at LF in a buffer of fixed size: no input makes it grow. A line of more
 // than half the buffer is handed out without some of its bytes, and is then still as long as half
 // the buffer. A last line needs no LF.
-ghost use Rattle.std.specs.Prelude.{◌≡◌, ◌-◌, ◌≤◌, length, IfOk, IfSome};
-ghost use Rattle.console.specs.Input.{NextLineKeeps, NextTurnKeeps, KeepsSize, HasRoomFor};
+ghost use Rattle.std.specs.Prelude.{◌≤◌, length, IfOk, IfSome};
+ghost use Rattle.console.specs.Input.{NextLineKeeps, NextTurnKeeps, KeepsSize};
 
 use crate::output;
 use std::io;
 use std::io::{Read, Write};
 use text::part::Place;
 use text::{bytes, part};
-
-// How many bytes are read ahead at most.
-const SIZE: usize = 65536;
-
-// The lines of a reader.
-#[derive(Drop)]
-pub struct Lines<R> {
-    reader: R,
-    buffer: [u8; SIZE],
-    // what is read and not cut yet
-    rest: Place,
-}
-
-impl<R: Read> Lines<R> {
-    pub fn new(reader: R) -> Lines<R>
-        ensures { result.reader ≡ reader }
-    {
-        Lines {
-            reader,
-            buffer: [0; SIZE],
-            rest: NOWHERE,
-        }
-    }
-
-    // The next line, and none at the end of the input.
-    pub fn next_line(&mut self) -> io::Result<Option<&[u8]>>
-        ensures { IfOk result (λ next. IfSome next (λ line. HasRoomFor line.now)) }
-    {
-        let Some(next) = next_line(&mut self.reader, &mut self.buffer, self.rest)? else {
-            return Ok(None);
-        };
-        self.rest = next.rest;
-        Ok(Some(part::part(&self.buffer, next.line.start, next.line.end)))
-    }
-}
 
 // A turn of a program that answers line by line out of buffers that it lends: the line's place, that
 // of what is read and not cut yet, where the answer goes in the other buffer, and how many turns

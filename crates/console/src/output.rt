@@ -1,58 +1,13 @@
-// Output: a writer with a buffer, for the programs, and texts and numbers laid into a buffer that a
-// caller lends, one behind the other.
-ghost use Rattle.std.specs.Prelude.{◌≡◌, IfOk, OnOk};
+// Texts and numbers laid into a lent buffer, one behind the other. Each call says where the next one
+// goes; what has no room is left out. The buffer and the place in it are two parameters, since each
+// is a public call.
+ghost use Rattle.std.specs.Prelude.{IfOk, OnOk};
 ghost use Rattle.std.specs.Io.KnownBytes.{Appends};
 ghost use Rattle.text.specs.Part.{part_of};
 ghost use Rattle.console.specs.Output.{Puts, PutsDecimal, PutsHex, EndsLine, LaysLineEnd};
 
 use std::io::Write;
 use text::{copy, part};
-
-// How many bytes wait at most before they are written.
-const SIZE: usize = 65536;
-
-// What is written waits in a buffer of fixed size, until that is full or `flush` is called: std's
-// BufWriter without a heap. Nothing is written when it is dropped.
-#[derive(Drop)]
-pub struct Output<W> {
-    writer: W,
-    buffer: [u8; SIZE],
-    waiting: usize,
-}
-
-impl<W: Write> Output<W> {
-    pub fn new(writer: W) -> Output<W>
-        ensures { result.writer ≡ writer }
-    {
-        Output {
-            writer,
-            buffer: [0; SIZE],
-            waiting: 0,
-        }
-    }
-}
-
-impl<W: Write> Write for Output<W> {
-    fn write(&mut self, bytes: &[u8]) -> std::io::Result<usize> {
-        if SIZE.saturating_sub(self.waiting) < bytes.len() {
-            self.flush()?;
-        }
-        let room = SIZE.saturating_sub(self.waiting);
-        let n = bytes.len().min(room);
-        self.waiting = put(&mut self.buffer, self.waiting, &bytes[..n]);
-        Ok(n)
-    }
-
-    // After an error it is not known how much was written, and all of it still waits.
-    fn flush(&mut self) -> std::io::Result<()> {
-        flush(&mut self.writer, &self.buffer, self.waiting)?;
-        self.waiting = 0;
-        Ok(())
-    }
-}
-
-// The functions below are for a buffer that the caller lends: each says where the next one goes, and
-// what has no room is left out. Their parameters stay as they are, since each is a public call.
 
 // A line has this much room at least when it begins.
 const ROOM: usize = 1024;

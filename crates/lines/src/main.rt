@@ -1,8 +1,8 @@
 // Says what each line of standard input says, in the formats of oracle/README.md.
 #![tactic(auto)]
 
-use answering::Lines;
+use answering::Program;
 
 fn main(rt: HostRuntime) -> std::io::Result<()> {
-    answering::run(&rt, Lines)
+    answering::run(&rt, Program::Lines)
 }

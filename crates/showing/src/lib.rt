@@ -7,11 +7,11 @@ ghost use Rattle.desk.specs.Says.{state_of, answer_says};
 ghost use Rattle.desk.specs.Demand.{taken_by};
 
 use at_command::request::Request;
-use console::output::Output;
+use console::output;
 use console::said::Said;
 use desk::{Desk, Event, Feed, Heard};
 use std::io;
-use std::io::{Input, Print, Read, Write};
+use std::io::{Cursor, Input, Print, Read, Write};
 use text::part;
 use text::refusal::Refusal;
 
@@ -37,14 +37,17 @@ fn line(out: &mut impl Write, bytes: &[u8]) -> io::Result<()> {
     writeln!(out)
 }
 
-// What the desk heard, with its line.
-fn say(out: &mut impl Write, heard: Heard, text: &[u8]) -> io::Result<()> {
+// What the desk heard, with its line, composed in an array and written at once.
+fn say(writer: &mut impl Write, heard: Heard, text: &[u8]) -> io::Result<()> {
+    let mut out = Cursor::new([0u8; 512]);
     write!(out, "{}", Said(heard))?;
     if let Event::Overlong = heard.event {
-        return writeln!(out);
+        writeln!(out)?;
+    } else {
+        write!(out, " ")?;
+        line(&mut out, part::part(text, 0, heard.size))?;
     }
-    write!(out, " ")?;
-    line(out, part::part(text, 0, heard.size))
+    output::flush(writer, out.get_ref(), out.position() as usize)
 }
 
 // Says what a feed tells, and answers how many bytes were taken. An error is the writer's.
@@ -93,7 +96,6 @@ fn show<R: Read, W: Write>(reader: &mut R, out: &mut W, mode: Mode) -> io::Resul
     let sent = part::part(&command, 0, n);
     write!(out, "open ")?;
     line(out, sent.strip_suffix(b"\r").unwrap_or(sent))?;
-    out.flush()?;
     let mut buffer = [0u8; 65536];
     // no input has more turns: each reads a byte
     for _ in 0..u64::MAX {
@@ -102,19 +104,17 @@ fn show<R: Read, W: Write>(reader: &mut R, out: &mut W, mode: Mode) -> io::Resul
             break;
         }
         desk = drain(out, desk, &buffer[..n])?;
-        out.flush()?;
     }
     let end = if desk.state.command.is_some() {
         "open"
     } else {
         "idle"
     };
-    writeln!(out, "end {end}")?;
-    out.flush()
+    writeln!(out, "end {end}")
 }
 
 pub fn run(rt: &(impl Input + Print), mode: Mode) -> io::Result<()> {
     let mut reader = rt.reader();
-    let mut out = Output::new(io::writer(rt));
+    let mut out = io::writer(rt);
     show(&mut reader, &mut out, mode)
 }

@@ -1,0 +1,45 @@
+// A writer with a buffer.
+use console::output;
+use std::io;
+use std::io::Write;
+
+// How many bytes wait at most before they are written.
+const SIZE: usize = 65536;
+
+// What is written waits in a buffer of fixed size, until that is full or `flush` is called: std's
+// BufWriter without a heap. Nothing is written when it is dropped.
+#[derive(Drop)]
+pub(crate) struct Output<W> {
+    pub(crate) writer: W,
+    pub(crate) buffer: [u8; SIZE],
+    pub(crate) waiting: usize,
+}
+
+impl<W: Write> Output<W> {
+    pub(crate) fn new(writer: W) -> Output<W> {
+        Output {
+            writer,
+            buffer: [0; SIZE],
+            waiting: 0,
+        }
+    }
+}
+
+impl<W: Write> Write for Output<W> {
+    fn write(&mut self, bytes: &[u8]) -> io::Result<usize> {
+        if SIZE.saturating_sub(self.waiting) < bytes.len() {
+            self.flush()?;
+        }
+        let room = SIZE.saturating_sub(self.waiting);
+        let n = bytes.len().min(room);
+        self.waiting = output::put(&mut self.buffer, self.waiting, &bytes[..n]);
+        Ok(n)
+    }
+
+    // After an error it is not known how much was written, and all of it still waits.
+    fn flush(&mut self) -> io::Result<()> {
+        output::flush(&mut self.writer, &self.buffer, self.waiting)?;
+        self.waiting = 0;
+        Ok(())
+    }
+}
