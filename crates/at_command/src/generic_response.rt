@@ -5,13 +5,14 @@ ghost use Rattle.std.specs.Prelude.{◌≡◌};
 ghost use Rattle.at_command.specs.Generic.{ok_text, error_text, prompt_text, close_text};
 ghost use Rattle.at_command.specs.says.Generic.{ok_says, error_says, prompt_says, close_says, GenericOkKeeps, SimErrorKeeps, WritePromptKeeps, CloseOkKeeps};
 
+use crate::prefix;
 use text::refusal::Refusal;
 use text::{bytes, line, number, part};
 
-#[derive(Clone, Copy)]
+#[derive(Clone, Copy, Debug, PartialEq, Eq)]
 pub struct GenericOk;
 
-#[derive(Clone, Copy)]
+#[derive(Clone, Copy, Debug, PartialEq, Eq)]
 pub enum SimError {
     // Generic error
     Generic,
@@ -23,10 +24,10 @@ pub enum SimError {
     CmsErr { code: u32 },
 }
 
-#[derive(Clone, Copy)]
+#[derive(Clone, Copy, Debug, PartialEq, Eq)]
 pub struct WritePrompt;
 
-#[derive(Clone, Copy)]
+#[derive(Clone, Copy, Debug, PartialEq, Eq)]
 pub struct CloseOk {
     pub connection: u64,
 }
@@ -56,12 +57,12 @@ impl SimError {
     pub(crate) fn from_checked(line: &[u8]) -> Result<SimError, Refusal>
         ensures { error_says result ≡ error_text line.now }
     {
-        if bytes::starts_with(line, b"+CME ERROR: ") {
-            let code = number::parse_u32(part::skip(line, 12)).ok_or(Refusal::NotThisLine)?;
+        if let Some(rest) = prefix::strip(line, b"+CME ERROR: ") {
+            let code = number::parse_u32(rest).ok_or(Refusal::NotThisLine)?;
             return Ok(SimError::CmeErr { code });
         }
-        if bytes::starts_with(line, b"+CMS ERROR: ") {
-            let code = number::parse_u32(part::skip(line, 12)).ok_or(Refusal::NotThisLine)?;
+        if let Some(rest) = prefix::strip(line, b"+CMS ERROR: ") {
+            let code = number::parse_u32(rest).ok_or(Refusal::NotThisLine)?;
             return Ok(SimError::CmsErr { code });
         }
         if bytes::is_text(line, b"ERROR") {

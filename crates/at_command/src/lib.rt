@@ -34,6 +34,7 @@ pub mod csq;
 pub mod generic_response;
 pub mod gsn;
 pub mod httptofs;
+mod prefix;
 pub mod request;
 pub mod straight;
 mod unquoted;

@@ -33,6 +33,22 @@ pub enum ResponseKind {
 }
 
 impl ResponseKind {
+    const ALL: [ResponseKind; 13] = [
+        ResponseKind::GenericOk,
+        ResponseKind::SimError,
+        ResponseKind::WritePrompt,
+        ResponseKind::CloseOk,
+        ResponseKind::Iccid,
+        ResponseKind::SignalQuality,
+        ResponseKind::SystemInfo,
+        ResponseKind::OperatorInfo,
+        ResponseKind::NetworkTime,
+        ResponseKind::DownloadInfo,
+        ResponseKind::Imei,
+        ResponseKind::SmsMessageFormat,
+        ResponseKind::SmsMessage,
+    ];
+
     // How many kinds are tried before this one.
     pub fn place(self) -> u8
         ensures { Gives (place_of (kind_says self)) result }
@@ -44,33 +60,19 @@ impl ResponseKind {
     pub fn at(place: u64) -> ResponseKind
         ensures { KindAtKeeps place result }
     {
-        match place {
-            0 => ResponseKind::GenericOk,
-            1 => ResponseKind::SimError,
-            2 => ResponseKind::WritePrompt,
-            3 => ResponseKind::CloseOk,
-            4 => ResponseKind::Iccid,
-            5 => ResponseKind::SignalQuality,
-            6 => ResponseKind::SystemInfo,
-            7 => ResponseKind::OperatorInfo,
-            8 => ResponseKind::NetworkTime,
-            9 => ResponseKind::DownloadInfo,
-            10 => ResponseKind::Imei,
-            11 => ResponseKind::SmsMessageFormat,
-            _ => ResponseKind::SmsMessage,
-        }
+        ResponseKind::ALL[place.min(12) as usize]
     }
 }
 
 // The answers that a request awaits, in order.
-#[derive(Clone, Copy)]
+#[derive(Clone, Copy, Debug, PartialEq, Eq)]
 pub enum Awaits {
     One(ResponseKind),
     Two(ResponseKind, ResponseKind),
 }
 
 // A request without its texts, which are lent beside it.
-#[derive(Clone, Copy)]
+#[derive(Clone, Copy, Debug, PartialEq, Eq)]
 pub enum Request {
     GetSignalQuality,
     ShowIccid,
