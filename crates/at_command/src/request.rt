@@ -93,41 +93,23 @@ impl Request {
     pub fn awaits(self) -> Awaits
         ensures { AwaitsKeeps self result }
     {
+        use Awaits::{One, Two};
+        use ResponseKind::GenericOk;
+
         match self {
-            Request::GetSignalQuality => Awaits::Two(
-                ResponseKind::SignalQuality,
-                ResponseKind::GenericOk,
-            ),
-            Request::ShowIccid => Awaits::Two(ResponseKind::Iccid, ResponseKind::GenericOk),
-            Request::GetImei => Awaits::Two(ResponseKind::Imei, ResponseKind::GenericOk),
-            Request::GetOperatorInfo => Awaits::Two(
-                ResponseKind::OperatorInfo,
-                ResponseKind::GenericOk,
-            ),
-            Request::SetManualOperator => Awaits::One(ResponseKind::GenericOk),
-            Request::SetAutomaticOperator => Awaits::One(ResponseKind::GenericOk),
-            Request::GetSystemInfo => Awaits::Two(
-                ResponseKind::SystemInfo,
-                ResponseKind::GenericOk,
-            ),
-            Request::SynchronizeNetworkTime {
-                timezone: _,
-                cid: _,
-            } => Awaits::One(ResponseKind::GenericOk),
-            Request::Execute => Awaits::Two(ResponseKind::GenericOk, ResponseKind::NetworkTime),
-            Request::DownloadToFileSystem => Awaits::Two(
-                ResponseKind::GenericOk,
-                ResponseKind::DownloadInfo,
-            ),
-            Request::GetSmsMessageFormat => Awaits::Two(
-                ResponseKind::SmsMessageFormat,
-                ResponseKind::GenericOk,
-            ),
-            Request::SetSmsMessageFormat(_) => Awaits::One(ResponseKind::GenericOk),
-            Request::ReadSms { index: _ } => Awaits::Two(
-                ResponseKind::SmsMessage,
-                ResponseKind::GenericOk,
-            ),
+            Request::GetSignalQuality => Two(ResponseKind::SignalQuality, GenericOk),
+            Request::ShowIccid => Two(ResponseKind::Iccid, GenericOk),
+            Request::GetImei => Two(ResponseKind::Imei, GenericOk),
+            Request::GetOperatorInfo => Two(ResponseKind::OperatorInfo, GenericOk),
+            Request::GetSystemInfo => Two(ResponseKind::SystemInfo, GenericOk),
+            Request::Execute => Two(GenericOk, ResponseKind::NetworkTime),
+            Request::DownloadToFileSystem => Two(GenericOk, ResponseKind::DownloadInfo),
+            Request::GetSmsMessageFormat => Two(ResponseKind::SmsMessageFormat, GenericOk),
+            Request::ReadSms { .. } => Two(ResponseKind::SmsMessage, GenericOk),
+            Request::SetManualOperator
+            | Request::SetAutomaticOperator
+            | Request::SynchronizeNetworkTime { .. }
+            | Request::SetSmsMessageFormat(_) => One(GenericOk),
         }
     }
 
