@@ -175,7 +175,9 @@ impl SetManualOperator {
     }
 }
 
-// An operator number is five or six digits. Its bytes are not asked for, since digits lie within 32 to 126.
+// An operator number is five or six digits. Its bytes are not asked for, since digits lie within 32
+// to 126.
+#[tactic(auto, using(crate::proofs::Writing::number_good))]
 fn check_number(plmn: &[u8]) -> Result<(), Refusal>
     ensures { refusal_said result ≡ refusal_of (texts_of (set_manual_operator plmn.now)) }
 {

@@ -36,7 +36,8 @@ fn dbm(rssi: u8) -> i32
     }
 }
 
-// The power above -115 dBm, as a percentage of the 63 dB up to the strongest. Each step rounds, so the division stays first.
+// The power above -115 dBm, as a percentage of the 63 dB up to the strongest. Each step rounds, so
+// the division stays first.
 fn strength(rssi: u8) -> f32
     requires { rssi ≤ 31 }
     ensures { result ≡ strength_of rssi }

@@ -32,6 +32,9 @@ pub struct CloseOk {
     pub connection: u64,
 }
 
+// What follows the number of a connection that is closed.
+const CLOSED: &[u8] = b", CLOSE OK";
+
 impl GenericOk {
     pub(crate) fn from_checked(line: &[u8]) -> Result<GenericOk, Refusal>
         ensures { ok_says result ≡ ok_text line.now }
@@ -101,10 +104,10 @@ impl CloseOk {
     pub(crate) fn from_checked(line: &[u8]) -> Result<CloseOk, Refusal>
         ensures { close_says result ≡ close_text line.now }
     {
-        if !bytes::ends_with(line, b", CLOSE OK") {
+        if !bytes::ends_with(line, CLOSED) {
             return Err(Refusal::NotThisLine);
         }
-        let number = part::part(line, 0, line.len() - 10);
+        let number = part::part(line, 0, line.len() - CLOSED.len());
         let connection = number::parse_u64(number).ok_or(Refusal::NotThisLine)?;
         Ok(CloseOk { connection })
     }

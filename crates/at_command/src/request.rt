@@ -113,9 +113,9 @@ impl Request {
         }
     }
 
-    // The size of the command that was written, or the refusal: 5, 12, 6 or 7.
-    // SetManualOperator's plmn, SynchronizeNetworkTime's ntp_server and DownloadToFileSystem's url are `first`, and the last one's
-    // file_path is `second`; the other requests have no texts.
+    // The size of the command that was written, or the refusal: 5, 12, 6 or 7. SetManualOperator's
+    // plmn, SynchronizeNetworkTime's ntp_server and DownloadToFileSystem's url are `first`, and the
+    // last one's file_path is `second`; the other requests have no texts.
     pub fn encode(self, first: &[u8], second: &[u8], out: &mut [u8]) -> Result<usize, Refusal>
         ensures { EncodeKeeps (asked self first.now second.now) out.old result out.new }
     {
