@@ -1,5 +1,7 @@
 -- A kind of response and its place in the order of trial. Assumes nothing.
-use mathlib.Core.Path.{◌≡◌, refl, sym}
+use Rattle.std.proofs.Common.{min, ltb, ltb-true, ltb-false}
+use Rattle.std.proofs.lemmas.List.{get_or-map}
+use mathlib.Core.Path.{◌≡◌, refl, sym, ◌∙◌}
 use mathlib.Core.Bool.{Bool, true, false}
 use mathlib.Core.List.{List, [], ◌∷◌}
 use Prim.Native.Nat.{ℕ, suc, ◌≤◌, ◌<◌}
@@ -12,6 +14,9 @@ use Rattle.text.proofs.Yields.{Yields}
 use Rattle.at_command.specs.Kind.{Kind, generic_ok, sim_error, write_prompt, close_ok, iccid, signal_quality, system_info, operator_info, network_time, download_info, imei, sms_message_format, sms_message, place_of, kinds, kind_at}
 use Rattle.at_command.specs.Response.{Response, kind_of, readings}
 use Rattle.at_command.specs.Response as R
+use Rattle.at_command.specs.says.Request.{kind_says}
+use Rattle.at_command.specs.declared.request.ResponseKind.{ResponseKind}
+use Rattle.at_command.specs.declared.request.ResponseKind.TheVariants as K
 
 pub at_place : (k : Kind) → kind_at (place_of k) ≡ k
 unfolding kind_at
@@ -52,6 +57,32 @@ kind_past k h = go (eqb k 12) (eqb-true k 12) (eqb-false k 12)
     go : (t : Bool) → (t ≡ true → k ≡ 12) → (t ≡ false → k ≡ 12 → ⊥) → sms_message ≡ get_or kinds k sms_message
     go true f g = rw (f refl)
     go false f g = sym (get_or-eq_default kinds sms_message {n = k} (let n = g refl in omega arith))
+
+-- `at`: the code's kinds in their order, and the last past it
+abbrev all : List ResponseKind
+all =
+    K.GenericOk
+    ∷ K.SimError
+    ∷ K.WritePrompt
+    ∷ K.CloseOk
+    ∷ K.Iccid
+    ∷ K.SignalQuality
+    ∷ K.SystemInfo
+    ∷ K.OperatorInfo
+    ∷ K.NetworkTime
+    ∷ K.DownloadInfo
+    ∷ K.Imei
+    ∷ K.SmsMessageFormat
+    ∷ K.SmsMessage
+    ∷ []
+
+pub kind_there : (k m : ℕ) → m ≡ min k 12 → kind_says (get_or all m K.GenericOk) ≡ kind_at k
+unfolding kind_at
+kind_there k m e = sym (get_or-map kind_says all m K.GenericOk sms_message (omega arith)) ∙ go (ltb k 12) (ltb-true k 12) (ltb-false k 12)
+  where
+    go : (t : Bool) → (t ≡ true → k < 12) → (t ≡ false → 12 ≤ k) → get_or kinds m sms_message ≡ get_or kinds k sms_message
+    go true f g = let h = f refl in let z : m ≡ k = omega arith in rw z
+    go false f g = let h = g refl in let z : m ≡ 12 = omega arith in rw z (kind_past k h)
 
 -- what the reader at a place of the trial reads is of the kind at that place
 unfoldable pub InOrder : ℕ → List (Reading Response) → Type 0

@@ -7,7 +7,7 @@ use native.Mathlib.Nat.{zero-add}
 use native.Mathlib.Omega.{arith}
 use lib.ListN.{length, drop}
 use lib.Dec.{ltb}
-use borrow.Author.Tests.{lt-ltb, le-ltb, ltb-false, lt-leb, le-leb, ne_eqb, not-true, not-false}
+use borrow.Author.Tests.{lt-ltb, le-ltb, ltb-false, le-leb, ne_eqb, not-false}
 use Rattle.text.specs.Bytes.{all_within, all_digits}
 use Rattle.text.specs.Copy.{LayKeeps}
 use Rattle.text.specs.Reading.{Reading, read, refused, mapped}
@@ -17,7 +17,7 @@ use Rattle.text.specs.says.Refusal.{number_of}
 use Rattle.text.specs.declared.refusal.Refusal.{Refusal}
 use Rattle.text.proofs.Refusals.{some_refusal}
 use Rattle.text.proofs.Tests.{neither}
-use Rattle.at_command.specs.Request.{Asked, set_manual_operator, command_of, operator_number, Text, up_to, operator_up_to, texts_of, any_long, any_bad_operator, any_unfit, refusal_of, fitting, LeavesWritten, Writes}
+use Rattle.at_command.specs.Request.{Asked, set_manual_operator, command_of, operator_number, Text, operator_up_to, texts_of, any_long, any_bad_operator, any_unfit, refusal_of, fitting, LeavesWritten, Writes}
 
 -- a command that does not fit, and one that was laid
 pub no_room : (c b : List ℕ) (n : ℕ) → n ≡ length c → length b < n → LeavesWritten (fitting c (length b)) b (refused 7) b
@@ -35,18 +35,8 @@ laid c b x e h l =
 
 -- the texts of a request
 module _ (t : Text) (ts : List Text) where
-  long : t.most < length t.text → any_long (t ∷ ts) ≡ true
-  long h = rw (lt-ltb t.most (length t.text) h)
-
   short : (v : Bool) → length t.text ≤ t.most → any_long ts ≡ v → any_long (t ∷ ts) ≡ v
   short v h e = rw (le-ltb t.most (length t.text) h) e
-
-  module _ (x : Bool) (is : x ≡ all_within 32 126 t.text) where
-    unfit : not x ≡ true → any_unfit (t ∷ ts) ≡ true
-    unfit h = rw (sym is ∙ not-true x h)
-
-    fit : (v : Bool) → not x ≡ false → any_unfit ts ≡ v → any_unfit (t ∷ ts) ≡ v
-    fit v h e = rw (sym is ∙ not-false x h) e
 
   -- and back: where no text is too long or has another byte, neither this one nor those behind it
   pub limited : any_long (t ∷ ts) ≡ false → (length t.text ≤ t.most) × (any_long ts ≡ false)
@@ -56,19 +46,8 @@ module _ (t : Text) (ts : List Text) where
   fitted h = let l = neither (not (all_within 32 126 t.text)) (any_unfit ts) h in (not-false _ l.0, l.1)
 
 module _ (ts : List Text) where
-  says_5 : any_long ts ≡ true → 5 ≡ refusal_of ts
-  says_5 l = rw l
-
-  module _ (l : any_long ts ≡ false) where
-    says_12 : any_bad_operator ts ≡ true → 12 ≡ refusal_of ts
-    says_12 m = rw (l, m)
-
-    module _ (m : any_bad_operator ts ≡ false) where
-      says_6 : any_unfit ts ≡ true → 6 ≡ refusal_of ts
-      says_6 u = rw (l, m, u)
-
-      says_0 : any_unfit ts ≡ false → 0 ≡ refusal_of ts
-      says_0 u = rw (l, m, u)
+  says_0 : any_long ts ≡ false → any_bad_operator ts ≡ false → any_unfit ts ≡ false → 0 ≡ refusal_of ts
+  says_0 l m u = rw (l, m, u)
 
   -- and back: where the refusal is 0, no text has a fault
   pub record Faultless : Type 0 where
@@ -85,59 +64,18 @@ module _ (ts : List Text) where
       go false false true p q r e = absurd (omega arith)
       go false false false p q r e = record { short = p; numbered = q; fit = r }
 
--- `write::check_texts`
-module _ (t u : List ℕ) (n m : ℕ) where
-  abbrev first : Text
-  first = up_to n t
-
-  abbrev second : List Text
-  second = up_to m u ∷ []
-
-  abbrev two : List Text
-  two = first ∷ second
-
-  pub first_long : n < length t → 5 ≡ refusal_of two
-  first_long h = says_5 two (long first second h)
-
-  module _ (h : length t ≤ n) where
-    pub second_long : m < length u → 5 ≡ refusal_of two
-    second_long k = says_5 two (short first second true h (long (up_to m u) [] k))
-
-    module _ (k : length u ≤ m) (x : Bool) (is : x ≡ all_within 32 126 t) where
-      both_short : any_long two ≡ false
-      both_short = short first second false h (short (up_to m u) [] false k refl)
-
-      pub first_unfit : not x ≡ true → 6 ≡ refusal_of two
-      first_unfit z = says_6 two both_short refl (unfit first second x is z)
-
-      module _ (z : not x ≡ false) (y : Bool) (also : y ≡ all_within 32 126 u) where
-        pub second_unfit : not y ≡ true → 6 ≡ refusal_of two
-        second_unfit w = says_6 two both_short refl (fit first second x is true z (unfit (up_to m u) [] y also w))
-
-        pub both_fit : not y ≡ false → 0 ≡ refusal_of two
-        both_fit w = says_0 two both_short refl (fit first second x is false z (fit (up_to m u) [] y also false w refl))
-
 -- `cops::check_number`
 module _ (p : List ℕ) where
   abbrev number : List Text
   number = texts_of (set_manual_operator p)
 
-  pub number_long : 6 < length p → 5 ≡ refusal_of number
-  number_long h = says_5 number (long (operator_up_to 6 p) [] h)
-
   module _ (h : length p ≤ 6) where
     not_long : any_long number ≡ false
     not_long = short (operator_up_to 6 p) [] false h refl
 
-    pub number_short : length p < 5 → 12 ≡ refusal_of number
-    number_short k = says_12 number not_long (rw (lt-leb 5 (length p) k))
-
     module _ (k : 5 ≤ length p) (x : Bool) (is : x ≡ all_digits p) where
       number_is : operator_number p ≡ x
       number_is = rw (le-leb 5 (length p) k, le-leb (length p) 6 h, is)
-
-      pub number_not : not x ≡ true → 12 ≡ refusal_of number
-      number_not z = says_12 number not_long (rw (number_is ∙ not-true x z))
 
       pub number_good : not x ≡ false → 0 ≡ refusal_of number
       number_good z = let d = not-false x z in says_0 number not_long (rw (number_is, d)) (rw (digits_printable p (sym is ∙ d)))

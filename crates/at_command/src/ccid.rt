@@ -11,7 +11,7 @@ use crate::write;
 use text::refusal::Refusal;
 use text::{bytes, line, number, part};
 
-#[derive(Clone, Copy)]
+#[derive(Clone, Copy, Debug, PartialEq, Eq)]
 pub struct Iccid {
     pub country: u8,
     pub issuer: u8,

@@ -9,9 +9,9 @@ ghost use Rattle.at_command.specs.Request.{get_sms_message_format, set_sms_messa
 ghost use Rattle.at_command.specs.says.Cmgf.{says, format_number, SmsMessageFormatKeeps};
 ghost use Rattle.at_command.specs.says.Request.{EncodeKeeps};
 
-use crate::write;
+use crate::{prefix, write};
 use text::refusal::Refusal;
-use text::{bytes, code, line, part};
+use text::{code, line};
 
 #[derive(Clone, Copy, Debug, PartialEq, Eq)]
 pub enum SmsMessageFormat {
@@ -34,10 +34,8 @@ impl SmsMessageFormat {
     pub(crate) fn from_checked(line: &[u8]) -> Result<SmsMessageFormat, Refusal>
         ensures { says result ≡ cmgf_text line.now }
     {
-        if !bytes::starts_with(line, b"+CMGF: ") {
-            return Err(Refusal::NotThisLine);
-        }
-        format_of(part::skip(line, 7)).ok_or(Refusal::NotThisLine)
+        let rest = prefix::strip(line, b"+CMGF: ").ok_or(Refusal::NotThisLine)?;
+        format_of(rest).ok_or(Refusal::NotThisLine)
     }
 
     pub fn from_line(line: &[u8]) -> Result<SmsMessageFormat, Refusal>

@@ -10,12 +10,12 @@ ghost use Rattle.at_command.specs.Request.{read_sms};
 ghost use Rattle.at_command.specs.says.Cmgr.{says, SmsMessageKeeps};
 ghost use Rattle.at_command.specs.says.Request.{EncodeKeeps};
 
-use crate::unquoted;
 use crate::write::Command;
+use crate::{prefix, unquoted};
 use text::handed::TextAt;
 use text::part::Place;
 use text::refusal::Refusal;
-use text::{bytes, field, handed, line, part, reader};
+use text::{field, handed, line, part, reader};
 
 // The sender's place in the line. The message's text is empty, as in the Rust.
 #[derive(Clone, Copy)]
@@ -27,7 +27,7 @@ pub struct SmsMessage {
 fn sms_message(line: &[u8]) -> Result<SmsMessage, Refusal>
     ensures { says result ≡ cmgr_fields (fields 44 (drop 7 line.now)) }
 {
-    let rest = part::skip(line, 7);
+    let rest = part::skip(line, prefix::SIZE);
     if field::field_count(rest, b',') < 3 {
         return Err(Refusal::NotThisLine);
     }
@@ -43,9 +43,7 @@ impl SmsMessage {
     pub(crate) fn from_checked(line: &[u8]) -> Result<SmsMessage, Refusal>
         ensures { says result ≡ cmgr_text line.now }
     {
-        if !bytes::starts_with(line, b"+CMGR: ") {
-            return Err(Refusal::NotThisLine);
-        }
+        prefix::strip(line, b"+CMGR: ").ok_or(Refusal::NotThisLine)?;
         sms_message(line)
     }
 

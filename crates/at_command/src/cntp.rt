@@ -11,6 +11,7 @@ ghost use Rattle.at_command.specs.Request.{synchronize_network_time, execute};
 ghost use Rattle.at_command.specs.says.Cntp.{says, code_number, NetworkTimeKeeps};
 ghost use Rattle.at_command.specs.says.Request.{EncodeKeeps};
 
+use crate::prefix;
 use crate::write::{self, Command};
 use text::handed::TextAt;
 use text::part::Place;
@@ -53,7 +54,7 @@ fn code_of(t: &[u8]) -> Option<SyncNtpStatusCode>
 fn network_time(line: &[u8]) -> Result<NetworkTime, Refusal>
     ensures { says result ≡ cntp_rest (drop 7 line.now) }
 {
-    let rest = part::skip(line, 7);
+    let rest = part::skip(line, prefix::SIZE);
     let code = code_of(part::before_byte(rest, b',')).ok_or(Refusal::NotThisLine)?;
     if !bytes::has_byte(rest, b',') {
         return Ok(NetworkTime { code, time: None });
@@ -61,7 +62,7 @@ fn network_time(line: &[u8]) -> Result<NetworkTime, Refusal>
     if 32 < part::after_byte(rest, b',').len() {
         return Err(Refusal::TextTooLong);
     }
-    let start = bytes::find(line, 7, b',') + 1;
+    let start = bytes::find(line, prefix::SIZE, b',') + 1;
     Ok(NetworkTime {
         code,
         time: Some(Place {
@@ -78,9 +79,7 @@ impl NetworkTime {
     pub(crate) fn from_checked(line: &[u8]) -> Result<NetworkTime, Refusal>
         ensures { says result ≡ cntp_text line.now }
     {
-        if !bytes::starts_with(line, b"+CNTP: ") {
-            return Err(Refusal::NotThisLine);
-        }
+        prefix::strip(line, b"+CNTP: ").ok_or(Refusal::NotThisLine)?;
         network_time(line)
     }
 

@@ -13,7 +13,7 @@ ghost use Rattle.at_command.specs.says.Cops.{says, mode_number, format_number, n
 ghost use Rattle.at_command.specs.says.Request.{EncodeKeeps};
 
 use crate::write::Command;
-use crate::{unquoted, write};
+use crate::{prefix, unquoted, write};
 use text::handed::TextAt;
 use text::part::Place;
 use text::refusal::Refusal;
@@ -81,7 +81,7 @@ fn field_or<'a>(t: &'a [u8], n: usize, fallback: &'a [u8]) -> &'a [u8]
 fn name_of(line: &[u8], fallback: &[u8]) -> TextAt
     ensures { name_says result ≡ name_of (fields 44 (drop 7 line.now)) fallback.now }
 {
-    if 2 < field::field_count(part::skip(line, 7), b',') {
+    if 2 < field::field_count(part::skip(line, prefix::SIZE), b',') {
         return TextAt::InLine(unquoted::unquoted_field(line, 2));
     }
     let start = part::trim_start(fallback, b'"');
@@ -99,7 +99,7 @@ fn operator_info<'a>(
 ) -> Result<OperatorInfo, Refusal>
     ensures { says result ≡ cops_fields format_fallback.now name_fallback.now (fields 44 (drop 7 line.now)) }
 {
-    let rest = part::skip(line, 7);
+    let rest = part::skip(line, prefix::SIZE);
     let mode = mode_of(reader::nth_field(rest, 0)).ok_or(Refusal::NotThisLine)?;
     let format = format_of(field_or(rest, 1, format_fallback)).ok_or(Refusal::NotThisLine)?;
     Ok(OperatorInfo {
@@ -117,9 +117,7 @@ impl OperatorInfo {
     ) -> Result<OperatorInfo, Refusal>
         ensures { says result ≡ cops_text format_fallback.now name_fallback.now line.now }
     {
-        if !bytes::starts_with(line, b"+COPS: ") {
-            return Err(Refusal::NotThisLine);
-        }
+        prefix::strip(line, b"+COPS: ").ok_or(Refusal::NotThisLine)?;
         operator_info(line, format_fallback, name_fallback)
     }
 
@@ -177,7 +175,9 @@ impl SetManualOperator {
     }
 }
 
-// An operator number is five or six digits. Its bytes are not asked for, since digits lie within 32 to 126.
+// An operator number is five or six digits. Its bytes are not asked for, since digits lie within 32
+// to 126.
+#[tactic(auto, using(crate::proofs::Writing::number_good))]
 fn check_number(plmn: &[u8]) -> Result<(), Refusal>
     ensures { refusal_said result ≡ refusal_of (texts_of (set_manual_operator plmn.now)) }
 {

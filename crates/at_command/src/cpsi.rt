@@ -10,9 +10,9 @@ ghost use Rattle.at_command.specs.Request.{get_system_info};
 ghost use Rattle.at_command.specs.says.Cpsi.{says, system_number, operation_number, SystemInfoKeeps};
 ghost use Rattle.at_command.specs.says.Request.{EncodeKeeps};
 
-use crate::write;
+use crate::{prefix, write};
 use text::refusal::Refusal;
-use text::{bytes, code, field, line, part, reader};
+use text::{code, field, line, reader};
 
 #[derive(Clone, Copy, Debug, PartialEq, Eq)]
 pub enum SystemMode {
@@ -31,7 +31,7 @@ pub enum OperationMode {
     LowPower = 4,
 }
 
-#[derive(Clone, Copy)]
+#[derive(Clone, Copy, Debug, PartialEq, Eq)]
 pub struct SystemInfo {
     pub system_mode: SystemMode,
     pub operation_mode: OperationMode,
@@ -82,10 +82,8 @@ impl SystemInfo {
     pub(crate) fn from_checked(line: &[u8]) -> Result<SystemInfo, Refusal>
         ensures { says result ≡ cpsi_text line.now }
     {
-        if !bytes::starts_with(line, b"+CPSI: ") {
-            return Err(Refusal::NotThisLine);
-        }
-        system_info(part::skip(line, 7))
+        let rest = prefix::strip(line, b"+CPSI: ").ok_or(Refusal::NotThisLine)?;
+        system_info(rest)
     }
 
     pub fn from_line(line: &[u8]) -> Result<SystemInfo, Refusal>

@@ -8,11 +8,11 @@ ghost use Rattle.at_command.specs.Request.{get_signal_quality};
 ghost use Rattle.at_command.specs.says.Csq.{says, SignalQualityKeeps};
 ghost use Rattle.at_command.specs.says.Request.{EncodeKeeps};
 
-use crate::write;
+use crate::{prefix, write};
 use text::refusal::Refusal;
 use text::{bytes, line, number, part};
 
-#[derive(Clone, Copy)]
+#[derive(Clone, Copy, Debug, PartialEq)]
 pub struct SignalQuality {
     // A percentage, where it is known.
     pub signal_strength: Option<f32>,
@@ -36,7 +36,8 @@ fn dbm(rssi: u8) -> i32
     }
 }
 
-// The power above -115 dBm, as a percentage of the 63 dB up to the strongest. Each step rounds, so the division stays first.
+// The power above -115 dBm, as a percentage of the 63 dB up to the strongest. Each step rounds, so
+// the division stays first.
 fn strength(rssi: u8) -> f32
     requires { rssi ≤ 31 }
     ensures { result ≡ strength_of rssi }
@@ -94,10 +95,8 @@ impl SignalQuality {
     pub(crate) fn from_checked(line: &[u8]) -> Result<SignalQuality, Refusal>
         ensures { says result ≡ csq_text line.now }
     {
-        if !bytes::starts_with(line, b"+CSQ: ") {
-            return Err(Refusal::NotThisLine);
-        }
-        signal_quality(part::skip(line, 6))
+        let rest = prefix::strip(line, b"+CSQ: ").ok_or(Refusal::NotThisLine)?;
+        signal_quality(rest)
     }
 
     pub fn from_line(line: &[u8]) -> Result<SignalQuality, Refusal>

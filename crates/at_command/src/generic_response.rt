@@ -5,13 +5,14 @@ ghost use Rattle.std.specs.Prelude.{◌≡◌};
 ghost use Rattle.at_command.specs.Generic.{ok_text, error_text, prompt_text, close_text};
 ghost use Rattle.at_command.specs.says.Generic.{ok_says, error_says, prompt_says, close_says, GenericOkKeeps, SimErrorKeeps, WritePromptKeeps, CloseOkKeeps};
 
+use crate::prefix;
 use text::refusal::Refusal;
 use text::{bytes, line, number, part};
 
-#[derive(Clone, Copy)]
+#[derive(Clone, Copy, Debug, PartialEq, Eq)]
 pub struct GenericOk;
 
-#[derive(Clone, Copy)]
+#[derive(Clone, Copy, Debug, PartialEq, Eq)]
 pub enum SimError {
     // Generic error
     Generic,
@@ -23,13 +24,16 @@ pub enum SimError {
     CmsErr { code: u32 },
 }
 
-#[derive(Clone, Copy)]
+#[derive(Clone, Copy, Debug, PartialEq, Eq)]
 pub struct WritePrompt;
 
-#[derive(Clone, Copy)]
+#[derive(Clone, Copy, Debug, PartialEq, Eq)]
 pub struct CloseOk {
     pub connection: u64,
 }
+
+// What follows the number of a connection that is closed.
+const CLOSED: &[u8] = b", CLOSE OK";
 
 impl GenericOk {
     pub(crate) fn from_checked(line: &[u8]) -> Result<GenericOk, Refusal>
@@ -56,12 +60,12 @@ impl SimError {
     pub(crate) fn from_checked(line: &[u8]) -> Result<SimError, Refusal>
         ensures { error_says result ≡ error_text line.now }
     {
-        if bytes::starts_with(line, b"+CME ERROR: ") {
-            let code = number::parse_u32(part::skip(line, 12)).ok_or(Refusal::NotThisLine)?;
+        if let Some(rest) = prefix::strip(line, b"+CME ERROR: ") {
+            let code = number::parse_u32(rest).ok_or(Refusal::NotThisLine)?;
             return Ok(SimError::CmeErr { code });
         }
-        if bytes::starts_with(line, b"+CMS ERROR: ") {
-            let code = number::parse_u32(part::skip(line, 12)).ok_or(Refusal::NotThisLine)?;
+        if let Some(rest) = prefix::strip(line, b"+CMS ERROR: ") {
+            let code = number::parse_u32(rest).ok_or(Refusal::NotThisLine)?;
             return Ok(SimError::CmsErr { code });
         }
         if bytes::is_text(line, b"ERROR") {
@@ -100,10 +104,10 @@ impl CloseOk {
     pub(crate) fn from_checked(line: &[u8]) -> Result<CloseOk, Refusal>
         ensures { close_says result ≡ close_text line.now }
     {
-        if !bytes::ends_with(line, b", CLOSE OK") {
+        if !bytes::ends_with(line, CLOSED) {
             return Err(Refusal::NotThisLine);
         }
-        let number = part::part(line, 0, line.len() - 10);
+        let number = part::part(line, 0, line.len() - CLOSED.len());
         let connection = number::parse_u64(number).ok_or(Refusal::NotThisLine)?;
         Ok(CloseOk { connection })
     }

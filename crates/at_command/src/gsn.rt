@@ -16,7 +16,8 @@ use text::part::Place;
 use text::refusal::Refusal;
 use text::{bytes, digit, handed, line};
 
-// Where the digits stand, which is the whole line, and what they are: fifteen an IMEI, sixteen a version number (TS 23.003's IMEISV).
+// Where the digits stand, which is the whole line, and what they are: fifteen an IMEI, sixteen a
+// version number (TS 23.003's IMEISV).
 #[derive(Clone, Copy)]
 pub struct Imei {
     pub imei: Place,
@@ -32,6 +33,7 @@ fn double(d: u8) -> u8
 }
 
 // The check digit that belongs to the digits of s.
+#[tactic(auto, using(crate::proofs::gsn::Laws::to_nine))]
 fn check_digit(s: &[u8]) -> u8
     requires { (all_digits s.now ≡ true) × (length s.now ≤ 14) }
     ensures { result ≡ check_digit s.now }
@@ -47,6 +49,7 @@ fn check_digit(s: &[u8]) -> u8
 }
 
 // Whether digits are fourteen and their check digit.
+#[tactic(auto, using(crate::proofs::gsn::Laws::fifteen_is))]
 fn is_imei(s: &[u8]) -> bool
     requires { all_digits s.now ≡ true }
     ensures { result ≡ is_imei s.now }

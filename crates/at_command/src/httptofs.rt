@@ -11,9 +11,10 @@ ghost use Rattle.at_command.specs.Request.{download_to_file_system};
 ghost use Rattle.at_command.specs.says.Httptofs.{says, status_number, info_says, DownloadInfoKeeps, SuccessKeeps};
 ghost use Rattle.at_command.specs.says.Request.{EncodeKeeps};
 
+use crate::prefix;
 use crate::write::{self, Command};
 use text::refusal::Refusal;
-use text::{bytes, code, line, number, part};
+use text::{code, line, number, part};
 
 #[derive(Clone, Copy, Debug, PartialEq, Eq)]
 pub enum StatusCode {
@@ -33,7 +34,7 @@ pub enum StatusCode {
     OtherErrors = 0,
 }
 
-#[derive(Clone, Copy)]
+#[derive(Clone, Copy, Debug, PartialEq, Eq)]
 pub struct DownloadInfo {
     pub status_code: StatusCode,
     pub data_length: u64,
@@ -99,10 +100,8 @@ impl DownloadInfo {
     pub(crate) fn from_checked(line: &[u8]) -> Result<DownloadInfo, Refusal>
         ensures { says result ≡ httptofs_text line.now }
     {
-        if !bytes::starts_with(line, b"+HTTPTOFS: ") {
-            return Err(Refusal::NotThisLine);
-        }
-        Ok(download(part::skip(line, 11)))
+        let rest = prefix::strip(line, b"+HTTPTOFS: ").ok_or(Refusal::NotThisLine)?;
+        Ok(download(rest))
     }
 
     pub fn from_line(line: &[u8]) -> Result<DownloadInfo, Refusal>

@@ -1,4 +1,8 @@
-// The modem's commands and the responses to them, a module for each file of the Rust's at_command; of what is ported, what that names at its root is named here.
+// The modem's commands and the responses to them, a module for each file of the Rust's at_command;
+// of what is ported, what that names at its root is named here. Each `from_line` is the Rust's
+// public name, with the contract of its own that the theorems cite, and so is each `encode` of one
+// line: a trait over them would need both in each impl, and no reader without the check of the line
+// is public.
 #![tactic(auto)]
 
 ghost use Rattle.std.specs.Prelude.{◌≡◌};
@@ -34,6 +38,7 @@ pub mod csq;
 pub mod generic_response;
 pub mod gsn;
 pub mod httptofs;
+mod prefix;
 pub mod request;
 pub mod straight;
 mod unquoted;

@@ -33,6 +33,22 @@ pub enum ResponseKind {
 }
 
 impl ResponseKind {
+    const ALL: [ResponseKind; 13] = [
+        ResponseKind::GenericOk,
+        ResponseKind::SimError,
+        ResponseKind::WritePrompt,
+        ResponseKind::CloseOk,
+        ResponseKind::Iccid,
+        ResponseKind::SignalQuality,
+        ResponseKind::SystemInfo,
+        ResponseKind::OperatorInfo,
+        ResponseKind::NetworkTime,
+        ResponseKind::DownloadInfo,
+        ResponseKind::Imei,
+        ResponseKind::SmsMessageFormat,
+        ResponseKind::SmsMessage,
+    ];
+
     // How many kinds are tried before this one.
     pub fn place(self) -> u8
         ensures { Gives (place_of (kind_says self)) result }
@@ -44,21 +60,7 @@ impl ResponseKind {
     pub fn at(place: u64) -> ResponseKind
         ensures { KindAtKeeps place result }
     {
-        match place {
-            0 => ResponseKind::GenericOk,
-            1 => ResponseKind::SimError,
-            2 => ResponseKind::WritePrompt,
-            3 => ResponseKind::CloseOk,
-            4 => ResponseKind::Iccid,
-            5 => ResponseKind::SignalQuality,
-            6 => ResponseKind::SystemInfo,
-            7 => ResponseKind::OperatorInfo,
-            8 => ResponseKind::NetworkTime,
-            9 => ResponseKind::DownloadInfo,
-            10 => ResponseKind::Imei,
-            11 => ResponseKind::SmsMessageFormat,
-            _ => ResponseKind::SmsMessage,
-        }
+        ResponseKind::ALL[place.min(12) as usize]
     }
 }
 
@@ -70,7 +72,7 @@ pub enum Awaits {
 }
 
 // A request without its texts, which are lent beside it.
-#[derive(Clone, Copy)]
+#[derive(Clone, Copy, Debug, PartialEq, Eq)]
 pub enum Request {
     GetSignalQuality,
     ShowIccid,
@@ -91,47 +93,29 @@ impl Request {
     pub fn awaits(self) -> Awaits
         ensures { AwaitsKeeps self result }
     {
+        use Awaits::{One, Two};
+        use ResponseKind::GenericOk;
+
         match self {
-            Request::GetSignalQuality => Awaits::Two(
-                ResponseKind::SignalQuality,
-                ResponseKind::GenericOk,
-            ),
-            Request::ShowIccid => Awaits::Two(ResponseKind::Iccid, ResponseKind::GenericOk),
-            Request::GetImei => Awaits::Two(ResponseKind::Imei, ResponseKind::GenericOk),
-            Request::GetOperatorInfo => Awaits::Two(
-                ResponseKind::OperatorInfo,
-                ResponseKind::GenericOk,
-            ),
-            Request::SetManualOperator => Awaits::One(ResponseKind::GenericOk),
-            Request::SetAutomaticOperator => Awaits::One(ResponseKind::GenericOk),
-            Request::GetSystemInfo => Awaits::Two(
-                ResponseKind::SystemInfo,
-                ResponseKind::GenericOk,
-            ),
-            Request::SynchronizeNetworkTime {
-                timezone: _,
-                cid: _,
-            } => Awaits::One(ResponseKind::GenericOk),
-            Request::Execute => Awaits::Two(ResponseKind::GenericOk, ResponseKind::NetworkTime),
-            Request::DownloadToFileSystem => Awaits::Two(
-                ResponseKind::GenericOk,
-                ResponseKind::DownloadInfo,
-            ),
-            Request::GetSmsMessageFormat => Awaits::Two(
-                ResponseKind::SmsMessageFormat,
-                ResponseKind::GenericOk,
-            ),
-            Request::SetSmsMessageFormat(_) => Awaits::One(ResponseKind::GenericOk),
-            Request::ReadSms { index: _ } => Awaits::Two(
-                ResponseKind::SmsMessage,
-                ResponseKind::GenericOk,
-            ),
+            Request::GetSignalQuality => Two(ResponseKind::SignalQuality, GenericOk),
+            Request::ShowIccid => Two(ResponseKind::Iccid, GenericOk),
+            Request::GetImei => Two(ResponseKind::Imei, GenericOk),
+            Request::GetOperatorInfo => Two(ResponseKind::OperatorInfo, GenericOk),
+            Request::GetSystemInfo => Two(ResponseKind::SystemInfo, GenericOk),
+            Request::Execute => Two(GenericOk, ResponseKind::NetworkTime),
+            Request::DownloadToFileSystem => Two(GenericOk, ResponseKind::DownloadInfo),
+            Request::GetSmsMessageFormat => Two(ResponseKind::SmsMessageFormat, GenericOk),
+            Request::ReadSms { .. } => Two(ResponseKind::SmsMessage, GenericOk),
+            Request::SetManualOperator
+            | Request::SetAutomaticOperator
+            | Request::SynchronizeNetworkTime { .. }
+            | Request::SetSmsMessageFormat(_) => One(GenericOk),
         }
     }
 
-    // The size of the command that was written, or the refusal: 5, 12, 6 or 7.
-    // SetManualOperator's plmn, SynchronizeNetworkTime's ntp_server and DownloadToFileSystem's url are `first`, and the last one's
-    // file_path is `second`; the other requests have no texts.
+    // The size of the command that was written, or the refusal: 5, 12, 6 or 7. SetManualOperator's
+    // plmn, SynchronizeNetworkTime's ntp_server and DownloadToFileSystem's url are `first`, and the
+    // last one's file_path is `second`; the other requests have no texts.
     pub fn encode(self, first: &[u8], second: &[u8], out: &mut [u8]) -> Result<usize, Refusal>
         ensures { EncodeKeeps (asked self first.now second.now) out.old result out.new }
     {

@@ -1,4 +1,5 @@
-// One of the thirteen readers, by its place in the order of trial, behind one check of the line: what the second engine asks (document 02, CR 6).
+// One of the thirteen readers, by its place in the order of trial, behind one check of the line:
+// what the second engine asks (document 02, CR 6).
 #![tactic(auto, unfolding(text::specs::Line::checked, text::specs::Reading::mapped, crate::specs::Response::readings, crate::specs::Response::reading_at))]
 
 ghost use Rattle.std.specs.Prelude.{◌≡◌};

@@ -31,9 +31,6 @@ module _ (t fallback : Bor (List ℕ)) (n k : ℕ) (count : k ≡ length (fields
       let z = le-ltb n (length (fields 44 t.now)) (subst (λ (m : ℕ). m ≤ n) count h) in
       record { bytes = rw z; place = rw z }
 
-pub field_or_via : (p : List ℕ) (n : ℕ) (t s fallback : List ℕ) → p ≡ field_or n (fields 44 t) fallback → t ≡ s → p ≡ field_or n (fields 44 s) fallback
-field_or_via p n t s fallback e h = e ∙ ap (λ (l : List ℕ). field_or n (fields 44 l) fallback) h
-
 module _ (s t fallback : List ℕ) (k : ℕ) (rest : t ≡ drop 7 s) (count : k ≡ length (fields 44 t)) where
   many : k ≡ length (fields 44 (drop 7 s))
   many = count ∙ ap (λ (l : List ℕ). length (fields 44 l)) rest

@@ -38,15 +38,6 @@ power z r = z +ℤ kept (twice r)
 abbrev shifted : ℕ → ℤ
 shifted r = kept (dbm_of r) +ℤ pos 115
 
-pub less_two_fits : (r : ℕ) → r ≤ 31 → SFits w32 (less_two r)
-less_two_fits = in_range less_two tt
-
-pub twice_fits : (r : ℕ) → r ≤ 31 → SFits w32 (twice r)
-twice_fits = in_range twice tt
-
-pub power_fits : (z : ℤ) → T (every_below 32 (λ r. sfitsb w32 (power z r))) → (r : ℕ) → r ≤ 31 → SFits w32 (power z r)
-power_fits z = in_range (power z)
-
 -- at an rssi of 2 or more
 pub power_is : (z : ℤ) → T (every_below 32 (λ r. cond (leb 2 r) (eqz (kept (power z r)) (dbm_of r)) true))
     → (r : ℕ) → r ≤ 31 → (r ≡ 0 → ⊥) → (r ≡ 1 → ⊥) → kept (power z r) ≡ dbm_of r

@@ -2,7 +2,7 @@
 use mathlib.Core.Path.{refl, ◌≡◌, ◌∙◌}
 use mathlib.Core.Bool.{Bool, true, false, ◌&&◌}
 use mathlib.Core.List.{List}
-use Prim.Native.Nat.{ℕ, ◌+◌, ◌-◌, ◌%◌, ◌≤◌, ◌<◌}
+use Prim.Native.Nat.{ℕ, ◌-◌, ◌≤◌, ◌<◌}
 use native.Mathlib.Omega.{arith}
 use lib.ListN.{length, get_or, take, drop}
 use lib.Dec.{eqb}
@@ -10,10 +10,9 @@ use borrow.Author.Tests.{ne_eqb}
 use Rattle.text.specs.Bytes.{all_digits}
 use Rattle.text.specs.Digit.{above_zero}
 use Rattle.text.proofs.Ascii.{within_parts, is_digit_lem}
-use Rattle.text.proofs.AtIndex.{at_next, at_end}
 use Rattle.text.proofs.Told.{difference, to_nine as told-nine}
 use Rattle.text.specs.Reading.{read, refused, only, either}
-use Rattle.at_command.specs.Gsn.{whole, doubled, luhn, check_digit, is_imei, imei_text}
+use Rattle.at_command.specs.Gsn.{whole, check_digit, is_imei, imei_text}
 
 -- what a digit is worth, as the code has it
 module _ (s : List ℕ) (i : ℕ) (inv : all_digits (drop i s) ≡ true) (h : i < length s) where
@@ -22,25 +21,6 @@ module _ (s : List ℕ) (i : ℕ) (inv : all_digits (drop i s) ≡ true) (h : i 
 
   pub to_nine : (d : ℕ) → d ≡ above_zero (get_or s i 0) → d ≤ 9
   to_nine d e = rw e (told-nine (get_or s i 0) (is_digit_lem s i inv h))
-
--- `check_digit`
-module _ (s : List ℕ) (i sum : ℕ) where
-  module _ (odd : Bool) (v : ℕ) (all : all_digits (drop i s) ≡ true) (h : i < length s) (value : v ≡ above_zero (get_or s i 0)) (inv : luhn false s ≡ sum + luhn odd (drop i s)) where
-    pub luhn_odd : (d : ℕ) → odd ≡ true → d ≡ doubled v → luhn false s ≡ (sum + d) + luhn false (drop (i + 1) s)
-    luhn_odd d e q =
-        let z : luhn odd (drop i s) ≡ doubled v + luhn false (drop (i + 1) s) = rw (e, at_next s i h, digit_is s i all h v value) in
-        omega arith
-
-    pub luhn_even : odd ≡ false → luhn false s ≡ (sum + v) + luhn true (drop (i + 1) s)
-    luhn_even e =
-        let z : luhn odd (drop i s) ≡ v + luhn true (drop (i + 1) s) = rw (e, at_next s i h, digit_is s i all h v value) in
-        omega arith
-
-  pub luhn_end : (odd : Bool) → luhn false s ≡ sum + luhn odd (drop i s) → length s ≤ i → (10 - sum % 10) % 10 ≡ check_digit s
-  luhn_end odd inv h =
-      let z : luhn odd (drop i s) ≡ 0 = rw (at_end s i h) in
-      let y : luhn false s ≡ sum = omega arith in
-      rw y
 
 -- `is_imei`: the fifteenth digit against the check digit of the first fourteen
 pub fifteen_is : (s : List ℕ) (v k : ℕ) → all_digits s ≡ true → length s ≡ 15 → v ≡ above_zero (get_or s 14 0) → k ≡ check_digit (take 14 s) → eqb v k ≡ is_imei s

@@ -1,5 +1,0 @@
-use Rattle.at_command.proofs.gsn.Laws.{fifteen_is}
-use Rattle.at_command.proofs.gsn.is_imei.Goals as goal
-
-pub returns-then-s-eq15 : goal.returns-then-s-eq15
-returns-then-s-eq15 c = fifteen_is _ _ _ c.requires c.if-s-eq15.true c.value.ensures c.check_digit.ensures
