@@ -1,7 +1,6 @@
 -- Bytes laid into a buffer one by one; and what is laid where the buffer has room for all of them. Assumes nothing.
-use Rattle.std.proofs.Common.{◌≡◌, ℕ, ◌+◌, ◌-◌, ◌<◌, ◌≤◌, Bool, true, false, cond, ltb, List, ◌++◌, length, take, drop, sym, refl, ap, ◌∙◌, arith, ltb-false, ltb-true, min, drop-drop, append_assoc}
-use lib.Seq.{paste, paste-zero, take-length}
-use borrow.Rule.Slice.PartMut.{put_mid}
+use Rattle.std.proofs.Common.{◌≡◌, ℕ, ◌+◌, ◌-◌, ◌<◌, ◌≤◌, Bool, true, false, cond, ltb, List, ◌++◌, length, get_or, take, drop, set, sym, refl, ap, ◌∙◌, add-one, arith, ltb-false, ltb-true, min}
+use lib.Seq.{paste, paste-zero, paste-suc, take-length}
 use Rattle.text.specs.Copy.{least, room_for, LayKeeps}
 
 -- the smaller of two
@@ -35,12 +34,15 @@ module _ (piece : List ℕ) (at : ℕ) (b : List ℕ) where
   unfolding room_for
   room_is = least_is (length piece) (length b - at)
 
-  -- its first n bytes are in the place of as many
-  pub lay_some : (n : ℕ) (x : List ℕ) → n ≡ min (length piece) (length b - at) → x ≡ take n piece → LayKeeps piece at b (at + n) (put_mid at (at + n - at) b x)
-  lay_some n x e is =
-      let z : at + n - at ≡ n = omega arith in
-      let r : n ≡ room_for piece at b = e ∙ sym room_is in
-      record { ends = ap (λ (k : ℕ). at + k) r; holds = rw (z, drop-drop, is, ← append_assoc) (ap (λ (k : ℕ). take at b ++ take k piece ++ drop (at + k) b) r) }
+  module _ (n i : ℕ) (x : List ℕ) (e : x ≡ paste b at piece i) where
+    pub lay_next : i < n → n ≤ length piece → at + n ≤ length b → set x (at + i) (get_or piece i 0) ≡ paste b at piece (i + 1)
+    lay_next h p r =
+        ap (λ (l : List ℕ). set l (at + i) (get_or piece i 0)) e ∙ paste-suc b at piece i 0 (omega arith) (omega arith) ∙ ap (λ (k : ℕ). paste b at piece k) (sym (add-one i))
+
+    pub lay_end : i ≡ n → n ≡ min (length piece) (length b - at) → LayKeeps piece at b (at + n) x
+    lay_end h k =
+        let r : n ≡ room_for piece at b = k ∙ sym room_is in
+        record { ends = ap (λ (j : ℕ). at + j) r; holds = e ∙ ap (λ (j : ℕ). paste b at piece j) (h ∙ r) }
 
 -- a piece that has room is laid whole
 module _ (piece : List ℕ) (at : ℕ) (b : List ℕ) (e : ℕ) (x : List ℕ) (room : at + length piece ≤ length b) (l : LayKeeps piece at b e x) where

@@ -10,7 +10,7 @@ pub fn least(a: usize, b: usize) -> usize
 }
 
 // Lays the piece into out from index `at` on, or as much of it as has room there, and says where it
-// ends.
+// ends. A loop: copy_from_slice becomes memmove, and the archive needs memcpy alone.
 pub fn lay(piece: &[u8], at: usize, out: &mut [u8]) -> usize
     ensures { LayKeeps piece.now at out.old result out.new }
 {
@@ -18,6 +18,8 @@ pub fn lay(piece: &[u8], at: usize, out: &mut [u8]) -> usize
         return at;
     }
     let n = piece.len().min(out.len() - at);
-    out[at..at + n].copy_from_slice(&piece[..n]);
+    for i in 0..n {
+        out[at + i] = piece[i];
+    }
     at + n
 }
