@@ -3,7 +3,8 @@
 ghost use Rattle.std.specs.Prelude.{◌≡◌, ◌≤◌, length};
 ghost use Rattle.text.specs.says.Refusal.{option_said};
 ghost use Rattle.numeral.specs.Bits.{bits_of};
-ghost use Rattle.at_command.specs.Response.{error, iccid, signal, system, operator, time, download, imei};
+ghost use Rattle.at_command.specs.Response.{error, iccid, signal, system};
+ghost use Rattle.at_command.specs.Response.{operator, time, download, imei};
 ghost use Rattle.at_command.specs.says.Ccid.{card_says};
 ghost use Rattle.at_command.specs.says.Cntp as Cntp;
 ghost use Rattle.at_command.specs.says.Cops as Cops;
