@@ -4,7 +4,8 @@ ghost use Rattle.text.specs.says.Refusal.{refusal_said};
 ghost use Rattle.desk.specs.Rules.{plain_mode, echo_mode};
 ghost use Rattle.desk.specs.Says.{feed_says};
 ghost use Rattle.sim7000.specs.Command.{open_left, opens, ExportOpenKeeps, ExportOpenEchoKeeps};
-ghost use Rattle.sim7000.specs.Parts.{told_of, ExportResetKeeps, ExportIsOpenKeeps, ExportFeedKeeps};
+ghost use Rattle.sim7000.specs.Parts.{told_of, ExportFeedKeeps};
+ghost use Rattle.sim7000.specs.Parts.{ExportResetKeeps, ExportIsOpenKeeps};
 ghost use Rattle.sim7000.specs.says.Left.{LeaveKeeps};
 ghost use Rattle.sim7000.specs.says.Wanted.{wanted_says};
 
@@ -50,8 +51,10 @@ fn open(
     out: &mut [u8],
     size: &mut u64,
 ) -> Result<(), Refusal>
-    ensures { (line sent : List ℕ) → length line ≡ 257 → open_left (refusal_said result) state.new sent out.new size.new
-        ≡ opens plain_mode (wanted_says request first.now second.now) line state.old sent out.old size.old }
+    ensures { (line sent : List ℕ) → length line ≡ 257
+        → open_left (refusal_said result) state.new sent out.new size.new
+        ≡ opens plain_mode (wanted_says request first.now second.now)
+        line state.old sent out.old size.old }
 {
     let request = request.ok_or(Refusal::NotThisLine)?;
     let opened = desk::open_on(numbers::state_in(state), request, first, second, out);
@@ -71,12 +74,15 @@ pub extern "C" fn sim7000_open(
     out: &mut [u8],
     size: &mut u64,
 ) -> u8
-    ensures { ExportOpenKeeps state.old request number code first.now second.now out.old size.old result state.new out.new size.new }
+    ensures { ExportOpenKeeps state.old request number code first.now second.now out.old size.old
+        result state.new out.new size.new }
 {
     let request = request_in(request, number, code);
     status(open(state, request, first, second, out, size))
 }
 
+// Beside `open`, since the desk's call is lent `sent` too: one function for both would be lent it
+// or not, and its contract would be both of these.
 #[tactic(auto, using(crate::proofs::Asking::opens_none))]
 fn open_echo(
     state: &mut [u64; 4],
@@ -87,8 +93,10 @@ fn open_echo(
     out: &mut [u8],
     size: &mut u64,
 ) -> Result<(), Refusal>
-    ensures { (line : List ℕ) → length line ≡ 257 → open_left (refusal_said result) state.new sent.new out.new size.new
-        ≡ opens echo_mode (wanted_says request first.now second.now) line state.old sent.old out.old size.old }
+    ensures { (line : List ℕ) → length line ≡ 257
+        → open_left (refusal_said result) state.new sent.new out.new size.new
+        ≡ opens echo_mode (wanted_says request first.now second.now)
+        line state.old sent.old out.old size.old }
 {
     let request = request.ok_or(Refusal::NotThisLine)?;
     let before = numbers::state_in(state);
@@ -110,7 +118,8 @@ pub extern "C" fn sim7000_open_echo(
     out: &mut [u8],
     size: &mut u64,
 ) -> u8
-    ensures { ExportOpenEchoKeeps state.old sent.old request number code first.now second.now out.old size.old result state.new sent.new out.new size.new }
+    ensures { ExportOpenEchoKeeps state.old sent.old request number code first.now second.now
+        out.old size.old result state.new sent.new out.new size.new }
 {
     let request = request_in(request, number, code);
     status(open_echo(state, sent, request, first, second, out, size))
@@ -142,7 +151,8 @@ fn feed(
     text: &mut [u8],
     told: &mut [u64; 5],
 ) -> Result<(), Refusal>
-    ensures { ExportFeedKeeps line.old state.old sent.now chunk.now text.old told.old (refusal_said result) line.new state.new text.new told.new }
+    ensures { ExportFeedKeeps line.old state.old sent.now chunk.now text.old told.old
+        (refusal_said result) line.new state.new text.new told.new }
 {
     let fed = desk::feed_on(line, numbers::state_in(state), sent, chunk, text);
     *told = told_of(fed.answer?);
@@ -160,7 +170,8 @@ pub extern "C" fn sim7000_feed(
     text: &mut [u8],
     told: &mut [u64; 5],
 ) -> u8
-    ensures { ExportFeedKeeps line.old state.old sent.now chunk.now text.old told.old result line.new state.new text.new told.new }
+    ensures { ExportFeedKeeps line.old state.old sent.now chunk.now text.old told.old
+        result line.new state.new text.new told.new }
 {
     status(feed(line, state, sent, chunk, text, told))
 }

@@ -1,7 +1,8 @@
 // A request by its number, and its command written.
 ghost use Rattle.std.specs.Prelude.{◌≡◌, List, ℕ};
 ghost use Rattle.text.specs.says.Refusal.{refusal_said};
-ghost use Rattle.sim7000.specs.Command.{format_asked, asked_by, write_left, writes, ExportWriteKeeps};
+ghost use Rattle.sim7000.specs.Command.{format_asked, asked_by};
+ghost use Rattle.sim7000.specs.Command.{write_left, writes, ExportWriteKeeps};
 ghost use Rattle.sim7000.specs.says.Wanted.{wanted_says};
 
 use crate::numbers::status;
@@ -23,7 +24,8 @@ fn set_format(code: u8) -> Option<Request>
 // The request that a number stands for.
 #[tactic(auto, using(crate::proofs::Asking::asked_none), unfolding(crate::specs::Command::asked_by))]
 pub(crate) fn request_in(request: u8, number: u16, code: u8) -> Option<Request>
-    ensures { (first second : List ℕ) → wanted_says result first second ≡ asked_by request number code first second }
+    ensures { (first second : List ℕ)
+        → wanted_says result first second ≡ asked_by request number code first second }
 {
     match request {
         0 => Some(Request::GetSignalQuality),
@@ -55,7 +57,8 @@ fn write(
     out: &mut [u8],
     size: &mut u64,
 ) -> Result<(), Refusal>
-    ensures { write_left (refusal_said result) out.new size.new ≡ writes (wanted_says request first.now second.now) out.old size.old }
+    ensures { write_left (refusal_said result) out.new size.new
+        ≡ writes (wanted_says request first.now second.now) out.old size.old }
 {
     let request = request.ok_or(Refusal::NotThisLine)?;
     *size = request.encode(first, second, out)? as u64;
@@ -74,7 +77,8 @@ pub extern "C" fn sim7000_write_command(
     out: &mut [u8],
     size: &mut u64,
 ) -> u8
-    ensures { ExportWriteKeeps request number code first.now second.now out.old size.old result out.new size.new }
+    ensures { ExportWriteKeeps request number code first.now second.now out.old size.old
+        result out.new size.new }
 {
     status(write(request_in(request, number, code), first, second, out, size))
 }

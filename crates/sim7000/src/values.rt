@@ -1,9 +1,11 @@
 // The 20 numbers of each reader: its number, its values, and zeros. Numbers in place of types are
 // the C interface: bindings/c/sim7000.h says what each place holds.
 ghost use Rattle.std.specs.Prelude.{◌≡◌, ◌≤◌, length};
+ghost use Rattle.text.specs.says.Part.{place_says};
 ghost use Rattle.text.specs.says.Refusal.{option_said};
 ghost use Rattle.numeral.specs.Bits.{bits_of};
-ghost use Rattle.at_command.specs.Response.{error, iccid, signal, system, operator, time, download, imei};
+ghost use Rattle.at_command.specs.Response.{error, iccid, signal, system};
+ghost use Rattle.at_command.specs.Response.{operator, time, download, imei};
 ghost use Rattle.at_command.specs.says.Ccid.{card_says};
 ghost use Rattle.at_command.specs.says.Cntp as Cntp;
 ghost use Rattle.at_command.specs.says.Cops as Cops;
@@ -19,7 +21,7 @@ ghost use Rattle.unsolicited.specs.says.Gnss.{report_says, fix_says};
 ghost use Rattle.unsolicited.specs.says.Registration.{registration_says};
 ghost use Rattle.unsolicited.specs.says.Urc.{urc_says};
 ghost use Rattle.trial.specs.Answer.{response, unsolicited};
-ghost use Rattle.sim7000.specs.Values.{there, padded, line_values};
+ghost use Rattle.sim7000.specs.Values.{there, padded, line_values, name_in, name_span};
 
 use at_command::ResponseCode;
 use at_command::ccid::Iccid;
@@ -32,6 +34,7 @@ use at_command::gsn::Imei;
 use at_command::httptofs::DownloadInfo;
 use numeral::bits;
 use text::handed::TextAt;
+use text::part::Place;
 use unsolicited::Urc;
 use unsolicited::network_registration::NetworkRegistration;
 use unsolicited::ugnsinf::{GnssFix, GnssReport};
@@ -101,14 +104,21 @@ fn system_values(info: SystemInfo) -> [u64; 20]
     row(&[7, info.system_mode as u64, info.operation_mode as u64])
 }
 
-// The fourth number is 0 where the name stands in the line, 1 where in the fallback text.
+// 0 and its place where the name stands in the line, 1 and its place where in the fallback text.
+fn placed(name: TextAt) -> (u64, Place)
+    ensures text { result.0 ≡ name_in (Cops.name_says name) }
+    ensures place { place_says result.1 ≡ name_span (Cops.name_says name) }
+{
+    match name {
+        TextAt::InLine(place) => (0, place),
+        TextAt::InFallback(place) => (1, place),
+    }
+}
+
 fn operator_values(info: OperatorInfo) -> [u64; 20]
     ensures { result ≡ line_values (response (operator (Cops.info_says info))) }
 {
-    let (text, place) = match info.operator_name {
-        TextAt::InLine(place) => (0, place),
-        TextAt::InFallback(place) => (1, place),
-    };
+    let (text, place) = placed(info.operator_name);
     row(&[
         8,
         info.mode as u64,
