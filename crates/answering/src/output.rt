@@ -27,13 +27,21 @@ impl<W: Write> Output<W> {
 
 impl<W: Write> Write for Output<W> {
     fn write(&mut self, bytes: &[u8]) -> io::Result<usize> {
+        self.write_all(bytes)?;
+        Ok(bytes.len())
+    }
+
+    // Bytes go into the buffer at once, which is quicker than std's loop over `write`.
+    #[inline]
+    fn write_all(&mut self, bytes: &[u8]) -> io::Result<()> {
         if SIZE.saturating_sub(self.waiting) < bytes.len() {
             self.flush()?;
         }
-        let room = SIZE.saturating_sub(self.waiting);
-        let n = bytes.len().min(room);
-        self.waiting = output::put(&mut self.buffer, self.waiting, &bytes[..n]);
-        Ok(n)
+        if SIZE < bytes.len() {
+            return self.writer.write_all(bytes);
+        }
+        self.waiting = output::put(&mut self.buffer, self.waiting, bytes);
+        Ok(())
     }
 
     // After an error it is not known how much was written, and all of it still waits.
