@@ -10,8 +10,9 @@ ghost use Rattle.at_command.specs.says.Cmgf.{says, format_number, SmsMessageForm
 ghost use Rattle.at_command.specs.says.Request.{EncodeKeeps};
 
 use crate::{prefix, write};
+use text::bytes::is_text;
+use text::line;
 use text::refusal::Refusal;
-use text::{code, line};
 
 #[derive(Clone, Copy, Debug, PartialEq, Eq)]
 pub enum SmsMessageFormat {
@@ -19,15 +20,14 @@ pub enum SmsMessageFormat {
     Text = 1,
 }
 
-const FORMATS: [(&[u8], SmsMessageFormat); 2] = [
-    (b"0", SmsMessageFormat::Pdu),
-    (b"1", SmsMessageFormat::Text),
-];
-
 fn format_of(t: &[u8]) -> Option<SmsMessageFormat>
     ensures { option_mapped format_number result ≡ code_in message_formats t.now }
 {
-    code::coded(t, &FORMATS)
+    match t {
+        _ if is_text(t, b"0") => Some(SmsMessageFormat::Pdu),
+        _ if is_text(t, b"1") => Some(SmsMessageFormat::Text),
+        _ => None,
+    }
 }
 
 impl SmsMessageFormat {

@@ -13,10 +13,11 @@ ghost use Rattle.at_command.specs.says.Request.{EncodeKeeps};
 
 use crate::prefix;
 use crate::write::{self, Command};
+use text::bytes::is_text;
 use text::handed::TextAt;
 use text::part::Place;
 use text::refusal::Refusal;
-use text::{bytes, code, handed, line, part};
+use text::{bytes, handed, line, part};
 
 #[derive(Clone, Copy, Debug, PartialEq, Eq)]
 pub enum SyncNtpStatusCode {
@@ -35,19 +36,18 @@ pub struct NetworkTime {
     pub time: Option<Place>,
 }
 
-const CODES: [(&[u8], SyncNtpStatusCode); 6] = [
-    (b"1", SyncNtpStatusCode::Success),
-    (b"61", SyncNtpStatusCode::NetworkError),
-    (b"62", SyncNtpStatusCode::DnsResolutionError),
-    (b"63", SyncNtpStatusCode::ConnectionError),
-    (b"64", SyncNtpStatusCode::ServiceResponseError),
-    (b"65", SyncNtpStatusCode::ServiceResponseTimeout),
-];
-
 fn code_of(t: &[u8]) -> Option<SyncNtpStatusCode>
     ensures { option_mapped code_number result ≡ code_in ntp_codes t.now }
 {
-    code::coded(t, &CODES)
+    match t {
+        _ if is_text(t, b"1") => Some(SyncNtpStatusCode::Success),
+        _ if is_text(t, b"61") => Some(SyncNtpStatusCode::NetworkError),
+        _ if is_text(t, b"62") => Some(SyncNtpStatusCode::DnsResolutionError),
+        _ if is_text(t, b"63") => Some(SyncNtpStatusCode::ConnectionError),
+        _ if is_text(t, b"64") => Some(SyncNtpStatusCode::ServiceResponseError),
+        _ if is_text(t, b"65") => Some(SyncNtpStatusCode::ServiceResponseTimeout),
+        _ => None,
+    }
 }
 
 // Reads what follows the prefix of seven bytes; the time's place is counted from the line's start.

@@ -14,10 +14,11 @@ ghost use Rattle.at_command.specs.says.Request.{EncodeKeeps};
 
 use crate::write::Command;
 use crate::{prefix, unquoted, write};
+use text::bytes::is_text;
 use text::handed::TextAt;
 use text::part::Place;
 use text::refusal::Refusal;
-use text::{bytes, code, field, handed, line, part, reader};
+use text::{bytes, field, handed, line, part, reader};
 
 #[derive(Clone, Copy, Debug, PartialEq, Eq)]
 pub enum OperatorMode {
@@ -42,29 +43,27 @@ pub struct OperatorInfo {
     pub operator_name: TextAt,
 }
 
-const MODES: [(&[u8], OperatorMode); 4] = [
-    (b"0", OperatorMode::Automatic),
-    (b"1", OperatorMode::Manual),
-    (b"2", OperatorMode::ManualDeregister),
-    (b"4", OperatorMode::ManualAutomatic),
-];
-
 fn mode_of(t: &[u8]) -> Option<OperatorMode>
     ensures { option_mapped mode_number result ≡ code_in operator_modes t.now }
 {
-    code::coded(t, &MODES)
+    match t {
+        _ if is_text(t, b"0") => Some(OperatorMode::Automatic),
+        _ if is_text(t, b"1") => Some(OperatorMode::Manual),
+        _ if is_text(t, b"2") => Some(OperatorMode::ManualDeregister),
+        _ if is_text(t, b"4") => Some(OperatorMode::ManualAutomatic),
+        _ => None,
+    }
 }
-
-const FORMATS: [(&[u8], OperatorFormat); 3] = [
-    (b"0", OperatorFormat::Long),
-    (b"1", OperatorFormat::Short),
-    (b"2", OperatorFormat::Numeric),
-];
 
 fn format_of(t: &[u8]) -> Option<OperatorFormat>
     ensures { option_mapped format_number result ≡ code_in operator_formats t.now }
 {
-    code::coded(t, &FORMATS)
+    match t {
+        _ if is_text(t, b"0") => Some(OperatorFormat::Long),
+        _ if is_text(t, b"1") => Some(OperatorFormat::Short),
+        _ if is_text(t, b"2") => Some(OperatorFormat::Numeric),
+        _ => None,
+    }
 }
 
 // Field n of t, or the lent fallback text when there is none: a part of one of the two.

@@ -11,8 +11,9 @@ ghost use Rattle.at_command.specs.says.Cpsi.{says, system_number, operation_numb
 ghost use Rattle.at_command.specs.says.Request.{EncodeKeeps};
 
 use crate::{prefix, write};
+use text::bytes::is_text;
 use text::refusal::Refusal;
-use text::{code, field, line, reader};
+use text::{field, line, reader};
 
 #[derive(Clone, Copy, Debug, PartialEq, Eq)]
 pub enum SystemMode {
@@ -37,31 +38,29 @@ pub struct SystemInfo {
     pub operation_mode: OperationMode,
 }
 
-const SYSTEM_MODES: [(&[u8], SystemMode); 4] = [
-    (b"NO SERVICE", SystemMode::NoService),
-    (b"GSM", SystemMode::Gsm),
-    (b"LTE CAT-M1", SystemMode::LteCatM1),
-    (b"LTE NB-IOT", SystemMode::LteNbIot),
-];
-
 fn system_of(t: &[u8]) -> Option<SystemMode>
     ensures { option_mapped system_number result ≡ code_in system_modes t.now }
 {
-    code::coded(t, &SYSTEM_MODES)
+    match t {
+        _ if is_text(t, b"NO SERVICE") => Some(SystemMode::NoService),
+        _ if is_text(t, b"GSM") => Some(SystemMode::Gsm),
+        _ if is_text(t, b"LTE CAT-M1") => Some(SystemMode::LteCatM1),
+        _ if is_text(t, b"LTE NB-IOT") => Some(SystemMode::LteNbIot),
+        _ => None,
+    }
 }
-
-const OPERATION_MODES: [(&[u8], OperationMode); 5] = [
-    (b"Online", OperationMode::Online),
-    (b"Offline", OperationMode::Offline),
-    (b"Factory Test Mode", OperationMode::FactoryTest),
-    (b"Reset", OperationMode::Reset),
-    (b"Low Power Mode", OperationMode::LowPower),
-];
 
 fn operation_of(t: &[u8]) -> Option<OperationMode>
     ensures { option_mapped operation_number result ≡ code_in operation_modes t.now }
 {
-    code::coded(t, &OPERATION_MODES)
+    match t {
+        _ if is_text(t, b"Online") => Some(OperationMode::Online),
+        _ if is_text(t, b"Offline") => Some(OperationMode::Offline),
+        _ if is_text(t, b"Factory Test Mode") => Some(OperationMode::FactoryTest),
+        _ if is_text(t, b"Reset") => Some(OperationMode::Reset),
+        _ if is_text(t, b"Low Power Mode") => Some(OperationMode::LowPower),
+        _ => None,
+    }
 }
 
 fn system_info(t: &[u8]) -> Result<SystemInfo, Refusal>

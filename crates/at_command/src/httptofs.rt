@@ -13,8 +13,9 @@ ghost use Rattle.at_command.specs.says.Request.{EncodeKeeps};
 
 use crate::prefix;
 use crate::write::{self, Command};
+use text::bytes::is_text;
 use text::refusal::Refusal;
-use text::{code, line, number, part};
+use text::{line, number, part};
 
 #[derive(Clone, Copy, Debug, PartialEq, Eq)]
 pub enum StatusCode {
@@ -59,26 +60,25 @@ impl StatusCode {
     }
 }
 
-const CODES: [(&[u8], StatusCode); 13] = [
-    (b"100", StatusCode::Continue),
-    (b"200", StatusCode::Ok),
-    (b"206", StatusCode::PartialContent),
-    (b"400", StatusCode::BadRequest),
-    (b"404", StatusCode::NotFound),
-    (b"408", StatusCode::RequestTimeout),
-    (b"500", StatusCode::InternalServerError),
-    (b"600", StatusCode::NotHttpPdu),
-    (b"601", StatusCode::NetworkError),
-    (b"602", StatusCode::NoMemory),
-    (b"603", StatusCode::DnsError),
-    (b"604", StatusCode::StackBusy),
-    (b"620", StatusCode::SslContinue),
-];
-
 fn status_of(t: &[u8]) -> StatusCode
     ensures { status_number result ≡ or_zero (code_in http_codes t.now) }
 {
-    code::coded(t, &CODES).unwrap_or(StatusCode::OtherErrors)
+    match t {
+        _ if is_text(t, b"100") => StatusCode::Continue,
+        _ if is_text(t, b"200") => StatusCode::Ok,
+        _ if is_text(t, b"206") => StatusCode::PartialContent,
+        _ if is_text(t, b"400") => StatusCode::BadRequest,
+        _ if is_text(t, b"404") => StatusCode::NotFound,
+        _ if is_text(t, b"408") => StatusCode::RequestTimeout,
+        _ if is_text(t, b"500") => StatusCode::InternalServerError,
+        _ if is_text(t, b"600") => StatusCode::NotHttpPdu,
+        _ if is_text(t, b"601") => StatusCode::NetworkError,
+        _ if is_text(t, b"602") => StatusCode::NoMemory,
+        _ if is_text(t, b"603") => StatusCode::DnsError,
+        _ if is_text(t, b"604") => StatusCode::StackBusy,
+        _ if is_text(t, b"620") => StatusCode::SslContinue,
+        _ => StatusCode::OtherErrors,
+    }
 }
 
 fn length_of(t: &[u8]) -> u64

@@ -80,6 +80,9 @@ impl Command {
         }
     }
 
+    // Never inlined: where LLVM sees the piece, it clears the rest by memset, and the archive needs
+    // memcpy alone.
+    #[inline(never)]
     pub(crate) fn text(&mut self, piece: &[u8])
         ensures { self.new ≡ take 210 (self.old ++ piece.now) }
     {

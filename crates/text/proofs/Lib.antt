@@ -4,7 +4,6 @@ pub mod AtIndex
 pub mod Begins
 pub mod Below
 pub mod Classes
-pub mod Codes
 pub mod Conditions
 pub mod Copying
 pub mod Digits

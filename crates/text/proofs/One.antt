@@ -31,7 +31,7 @@ back_option Std.None = refl
 
 -- a contract that says what the answer is equal to
 -- one answer: bytes::find, bytes::has_byte, bytes::count_byte, bytes::starts_with, bytes::is_text, bytes::ends_with, bytes::all_within, bytes::all_digits
--- one answer: code::coded, copy::least, digit::value, digit::is_ascii_digit, field::field_start, field::field_count, part::trim_start, refusal::Refusal::number
+-- one answer: copy::least, digit::value, digit::is_ascii_digit, field::field_start, field::field_count, part::trim_start, refusal::Refusal::number
 -- one answer: reader::FieldReader::ended, utf8::is_utf8
 pub one_equal : {R : Type 0} (a b p : R) → Gives p a → Gives p b → a ≡ b
 one_equal a b p h k = h ∙ sym k

@@ -1,6 +1,5 @@
 -- Codes that are matched as texts: "00" is not "0" (document 01, "Numbers in a line").
-use Rattle.std.specs.Prelude.{ℕ, cond, List, [], ◌∷◌, Option as Found, Some, None}
-use Rattle.std.specs.Borrow.{Bor}
+use Rattle.std.specs.Prelude.{ℕ, cond, List, [], ◌∷◌}
 use Prim.Native.String.{String}
 use Rattle.std.proofs.Math.Option.{Option, none, some}
 use Rattle.text.specs.Bytes.{bytes, same}
@@ -17,8 +16,3 @@ is t n = record { text = bytes t; number = n }
 abbrev pub code_in : List Entry → List ℕ → Option ℕ
 code_in [] t = none
 code_in (e ∷ es) t = cond (same t e.text) (some e.number) (code_in es t)
-
--- the value beside the text in a table of the code's, of texts and values
-abbrev pub coded : {A : Type 0} → List (Bor (List ℕ) × A) → List ℕ → Found A
-coded [] t = None
-coded (e ∷ es) t = cond (same t e.0.now) (Some e.1) (coded es t)

@@ -3,7 +3,6 @@
 
 pub mod bytes;
 pub mod class;
-pub mod code;
 pub mod copy;
 pub mod digit;
 pub mod field;
