@@ -4,7 +4,7 @@ use Prim.Native.Nat.{ℕ}
 use mathlib.Core.Path.{◌≡◌, refl, ap, sym, ◌∙◌}
 use mathlib.Core.List.{List}
 use Rattle.text.specs.declared.refusal.Refusal.{Refusal}
-use Rattle.text.specs.Reading.{Reading, read, refused, mapped}
+use Rattle.text.specs.Reading.{read, mapped}
 use Rattle.text.proofs.One.{one_answer, one_reading}
 use Rattle.at_command.proofs.One.{code_of, code_back, one_response}
 use Rattle.at_command.proofs.OneRequest.{kind, kind_back}

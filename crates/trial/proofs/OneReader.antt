@@ -1,5 +1,4 @@
 -- The second engine: what the one reader says that could take the line is what the trial says, in either trial and in both, refusals included.
-use Rattle.std.specs.Prelude.{Result, Ok, Err}
 use Prim.Native.Nat.{ℕ, zero, suc, ◌+◌, ◌-◌, ◌≤◌, ◌<◌}
 use mathlib.Core.Path.{◌≡◌, refl, ap, sym, ◌∙◌, subst}
 use mathlib.Core.Bool.{Bool, true, false, cond}
@@ -7,7 +6,6 @@ use mathlib.Core.List.{List, [], ◌∷◌}
 use native.Mathlib.Omega.{arith}
 use lib.Dec.{eqb}
 use borrow.Author.Tests.{ne_eqb, eqb-true, eqb-false, lt-ltb, le-ltb}
-use Rattle.text.specs.declared.refusal.Refusal.{Refusal}
 use Rattle.text.specs.Condition.{Points, nth_reading}
 use Rattle.text.specs.Line.{line_check, checked, refusal_by}
 use Rattle.text.specs.Reading.{Reading, read, refused, mapped, each, refusal_in}
@@ -15,15 +13,9 @@ use Rattle.text.proofs.Conditions.{straight, points_left, points_right, reading_
 use Rattle.at_command.specs.Conditions.{conditions}
 use Rattle.at_command.specs.Kind.{Kind, kind_at}
 use Rattle.at_command.specs.Response.{Response, ok, error, prompt, close_ok, iccid, signal, system, operator, time, download, imei, format, message, readings, response_text, reading_at}
-use Rattle.at_command.specs.says.Response.{ResponseAtKeeps}
-use Rattle.at_command.specs.says.Response.{says as response_says}
-use Rattle.at_command.specs.declared.ResponseCode.{ResponseCode}
 use Rattle.at_command.proofs.Conditions.{responses_asked}
 use Rattle.unsolicited.specs.Conditions.{urc_conditions}
 use Rattle.unsolicited.specs.Urc.{Unsolicited, gnss, registration, urc_readings, urc_text, urc_reading_at}
-use Rattle.unsolicited.specs.says.Urc.{UrcAtKeeps}
-use Rattle.unsolicited.specs.says.Urc.{says as urc_answer_says}
-use Rattle.unsolicited.specs.declared.Urc.{Urc}
 use Rattle.unsolicited.proofs.Conditions.{urcs_asked}
 use Rattle.trial.specs.Answer.{Said, response, unsolicited, all_readings, said_text, line_said}
 use Rattle.trial.specs.Conditions.{all_conditions, ConditionsAsked, StraightAgrees}
@@ -32,8 +24,6 @@ use Rattle.trial.specs.Sort as S
 use Rattle.trial.specs.Sort.{Sort, sort_of, line_sort}
 use Rattle.trial.specs.Taker as T
 use Rattle.trial.specs.Taker.{Taker, taker_of, taker_at, line_taker}
-use Rattle.trial.specs.says.Line.{LineKeeps}
-use Rattle.trial.specs.declared.Line.TheVariants as L
 use Rattle.trial.proofs.Order.{refusal_some}
 use Rattle.trial.proofs.Turns.{behind}
 

@@ -1,24 +1,14 @@
 -- Both trials in turn, as one list, are the one trial that the line's front chooses.
-use Rattle.std.specs.Prelude.{Result, Ok, Err}
 use Prim.Native.Nat.{ℕ}
 use mathlib.Core.Path.{◌≡◌, refl, sym, ap, ◌∙◌}
 use mathlib.Core.Bool.{Bool, true, false, cond}
 use mathlib.Core.List.{List, [], ◌∷◌, ◌++◌}
 use lib.Dec.{eqb}
-use Rattle.text.specs.declared.refusal.Refusal.{Refusal}
 use Rattle.text.specs.Line.{line_check, checked}
 use Rattle.text.specs.Reading.{Reading, read, refused, mapped, each, first_of, worse}
 use Rattle.text.proofs.Readings.{first_each}
 use Rattle.at_command.specs.Response.{Response, readings, response_text}
 use Rattle.unsolicited.specs.Urc.{Unsolicited, urc_readings, urc_text, begins}
-use Rattle.at_command.specs.says.Response.{ResponseCodeKeeps}
-use Rattle.at_command.specs.says.Response.{says as response_says}
-use Rattle.at_command.specs.declared.ResponseCode.{ResponseCode}
-use Rattle.unsolicited.specs.says.Urc.{UrcKeeps}
-use Rattle.unsolicited.specs.says.Urc.{says as urc_answer_says}
-use Rattle.unsolicited.specs.declared.Urc.{Urc}
-use Rattle.trial.specs.says.Line.{LineKeeps}
-use Rattle.trial.specs.declared.Line.TheVariants as L
 use Rattle.trial.specs.Answer.{Said, response, unsolicited, all_readings, said_text, line_said}
 use Rattle.trial.proofs.Apart.{responses_not, urcs_not}
 use Rattle.trial.proofs.Refusals.{three, four, Refuses, responses_refuse}

@@ -1,4 +1,4 @@
-use mathlib.Core.Path.{subst, sym, ap, ◌∙◌}
+use mathlib.Core.Path.{subst, ap, ◌∙◌}
 use mathlib.Core.List.{List}
 use Prim.Native.Nat.{ℕ}
 use Rattle.std.proofs.lemmas.Result.{err_from_is_err_and}
