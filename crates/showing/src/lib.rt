@@ -9,27 +9,12 @@ ghost use Rattle.desk.specs.Demand.{taken_by};
 use at_command::request::Request;
 use console::output;
 use console::said::Said;
+pub use desk::Mode;
 use desk::{Desk, Event, Feed, Heard};
 use std::io;
 use std::io::{Cursor, Input, Print, Read, Write};
 use text::part;
 use text::refusal::Refusal;
-
-#[derive(Clone, Copy)]
-pub enum Mode {
-    Plain,
-    Echo,
-}
-
-impl Mode {
-    // Opens AT+CSQ on a desk.
-    fn open(self, desk: &mut Desk, out: &mut [u8]) -> Result<usize, Refusal> {
-        match self {
-            Mode::Plain => desk.open_lent(Request::GetSignalQuality, b"", b"", out),
-            Mode::Echo => desk.open_echo_lent(Request::GetSignalQuality, b"", b"", out),
-        }
-    }
-}
 
 // Bytes as they are, and the line's end.
 fn line(out: &mut impl Write, bytes: &[u8]) -> io::Result<()> {
@@ -90,7 +75,7 @@ fn drain<W: Write>(out: &mut W, desk: Desk, chunk: &[u8]) -> io::Result<Desk>
 fn show<R: Read, W: Write>(reader: &mut R, out: &mut W, mode: Mode) -> io::Result<()> {
     let mut desk = Desk::new();
     let mut command = [0u8; 256];
-    let Ok(n) = mode.open(&mut desk, &mut command) else {
+    let Ok(n) = desk.open_in_lent(mode, Request::GetSignalQuality, b"", b"", &mut command) else {
         return Ok(());
     };
     let sent = part::part(&command, 0, n);
