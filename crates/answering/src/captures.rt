@@ -28,7 +28,9 @@ pub(crate) fn answer(out: &mut impl Write, line: &[u8]) -> io::Result<()> {
     write!(out, "end {end}")
 }
 
-// A desk, what its feeds and its opens are lent, and how many bytes an open gets of that.
+// A desk, what its feeds and its opens are lent, and how many bytes an open gets of that: `room` is
+// set by a step, and is no length of what stands there. The arrays are of fixed size, here and in
+// `step`, so that no input makes them grow.
 #[derive(Clone, Copy)]
 struct Session {
     desk: Desk,

@@ -37,6 +37,8 @@ pub(crate) fn request_of(line: &[u8]) -> Option<Request> {
     }
 }
 
+// The names, here and below, are those of the input: neither FromStr nor TryFrom can be written
+// here, since these and the requests are all of other crates.
 fn without_fields(name: &[u8]) -> Option<Request> {
     match name {
         b"GetSignalQuality" => Some(Request::GetSignalQuality),
@@ -68,7 +70,8 @@ fn message_format(text: &[u8]) -> Option<SmsMessageFormat> {
     }
 }
 
-// The texts of a request are its first fields.
+// The texts of a request are its first fields. The array is lent to `encode`, which writes in no
+// other way.
 fn command(out: &mut impl Write, request: Request, line: &[u8]) -> io::Result<()> {
     let mut command = [0u8; 256];
     let first = field::field(line, b'\t', 1);

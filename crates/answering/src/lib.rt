@@ -18,7 +18,7 @@ mod vectors;
 
 use output::Output;
 
-// How many bytes are read ahead at most.
+// How many bytes are read ahead at most, in an array of fixed size: no input makes it grow.
 const SIZE: usize = 65536;
 
 #[derive(Clone, Copy)]
@@ -30,7 +30,8 @@ pub enum Program {
 }
 
 impl Program {
-    // Writes the answer to a line, without the LF at its end.
+    // Writes the answer to a line, without the LF at its end. A match: a trait, or the four
+    // functions handed over, would make public what stands in these four modules.
     fn answer(self, out: &mut impl Write, line: &[u8]) -> io::Result<()> {
         match self {
             Program::Lines => lines::answer(out, line),

@@ -11,6 +11,7 @@ use std::io::Write;
 use text::refusal::Refusal;
 use text::{field, number, utf8};
 
+// The bytes stand in an array of fixed size: no input makes it grow.
 pub(crate) fn answer(out: &mut impl Write, line: &[u8]) -> io::Result<()> {
     let mut bytes = [0u8; 4096];
     match hex::decode(field::field(line, b'\t', 1), &mut bytes) {
@@ -19,6 +20,8 @@ pub(crate) fn answer(out: &mut impl Write, line: &[u8]) -> io::Result<()> {
     }
 }
 
+// By the name of the kind, here and below. Each arm has a reader and what prints its
+// answer: a table of functions would be no plainer.
 fn read(out: &mut impl Write, kind: &[u8], s: &[u8]) -> io::Result<()> {
     match kind {
         b"u8" => write!(out, "{}", OrNone(number::parse_u8(s))),

@@ -72,7 +72,8 @@ fn network_time(line: &[u8]) -> Result<NetworkTime, Refusal>
     })
 }
 
-// The place of no text.
+// The place of no text. A time that the line lacks is handed out as an empty part of the line,
+// which has a place (TextKeeps, time_handed).
 const NOWHERE: Place = Place { start: 0, end: 0 };
 
 impl NetworkTime {

@@ -43,6 +43,8 @@ pub struct OperatorInfo {
     pub operator_name: TextAt,
 }
 
+// A match with guards: a table of texts and values would hold addresses, for which the linker of a
+// firmware needs RAM, and the header says that the archive has no writable data.
 fn mode_of(t: &[u8]) -> Option<OperatorMode>
     ensures { option_mapped mode_number result ≡ code_in operator_modes t.now }
 {
@@ -91,6 +93,8 @@ fn name_of(line: &[u8], fallback: &[u8]) -> TextAt
     })
 }
 
+// The line and the two fallback texts are three parameters, here and below, since they are those of
+// the public `from_line` and `name_text` (OperatorInfoKeeps, name_handed).
 fn operator_info<'a>(
     line: &'a [u8],
     format_fallback: &'a [u8],

@@ -38,6 +38,8 @@ pub struct SystemInfo {
     pub operation_mode: OperationMode,
 }
 
+// A match with guards: a table of texts and values would hold addresses, for which the linker of a
+// firmware needs RAM, and the header says that the archive has no writable data.
 fn system_of(t: &[u8]) -> Option<SystemMode>
     ensures { option_mapped system_number result ≡ code_in system_modes t.now }
 {

@@ -17,7 +17,8 @@ use text::refusal::Refusal;
 use text::{bytes, digit, handed, line};
 
 // Where the digits stand, which is the whole line, and what they are: fifteen an IMEI, sixteen a
-// version number (TS 23.003's IMEISV).
+// version number (TS 23.003's IMEISV). One struct with the Rust's field: an enum of the two would
+// be no plainer, since both hold the same place.
 #[derive(Clone, Copy)]
 pub struct Imei {
     pub imei: Place,

@@ -1,8 +1,9 @@
 // The modem's commands and the responses to them, a module for each file of the Rust's at_command;
 // of what is ported, what that names at its root is named here. Each `from_line` is the Rust's
 // public name, with the contract of its own that the theorems cite, and so is each `encode` of one
-// line: a trait over them would need both in each impl, and no reader without the check of the line
-// is public.
+// line, and each call that hands a text out: a trait over them would need both in each impl, and no
+// reader without the check of the line is public. Each `from_checked` has a prefix, a reader and a
+// contract of its own: one function for all would be handed the three, and be no plainer.
 #![tactic(auto)]
 
 ghost use Rattle.std.specs.Prelude.{◌≡◌};

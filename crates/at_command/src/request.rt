@@ -56,7 +56,8 @@ impl ResponseKind {
         self as u8
     }
 
-    // The kind at a place; past the last, the last.
+    // The kind at a place; past the last, the last. The place is a number, since C hands over one,
+    // and KindAtKeeps answers every number.
     pub fn at(place: u64) -> ResponseKind
         ensures { KindAtKeeps place result }
     {
@@ -115,7 +116,8 @@ impl Request {
 
     // The size of the command that was written, or the refusal: 5, 12, 6 or 7. SetManualOperator's
     // plmn, SynchronizeNetworkTime's ntp_server and DownloadToFileSystem's url are `first`, and the
-    // last one's file_path is `second`; the other requests have no texts.
+    // last one's file_path is `second`; the other requests have no texts. A match, since each has
+    // an `encode` of its own, and is handed the texts that it has.
     pub fn encode(self, first: &[u8], second: &[u8], out: &mut [u8]) -> Result<usize, Refusal>
         ensures { EncodeKeeps (asked self first.now second.now) out.old result out.new }
     {

@@ -1,5 +1,7 @@
 // One of the thirteen readers, by its place in the order of trial, behind one check of the line:
-// what the second engine asks (document 02, CR 6).
+// what the second engine asks (document 02, CR 6). A place is a number, and one past the last is
+// refused with 3: ResponseAtKeeps has it so. A match finds the reader: a list of closures would
+// first give all readers one type, and be no plainer.
 #![tactic(auto, unfolding(text::specs::Line::checked, text::specs::Reading::mapped, crate::specs::Response::readings, crate::specs::Response::reading_at))]
 
 ghost use Rattle.std.specs.Prelude.{◌≡◌};

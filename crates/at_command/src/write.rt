@@ -55,7 +55,8 @@ pub(crate) fn plain(command: &[u8], out: &mut [u8]) -> Result<usize, Refusal>
 const MOST: usize = 210;
 
 // A command that is being written, piece behind piece, until it goes into the buffer that is lent
-// for it. What goes past its 210 bytes is dropped: no request has a longer command.
+// for it. What goes past its 210 bytes is dropped: no request has a longer command. It is an array
+// and a length, since the library has no heap.
 #[derive(Drop)]
 pub(crate) struct Command {
     bytes: [u8; MOST],

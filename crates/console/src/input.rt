@@ -21,6 +21,8 @@ pub struct Turn {
     pub left: u64,
 }
 
+// An empty place: before the first turn nothing is read, and behind the last nobody looks. An
+// Option for these two would be asked about at each turn.
 const NOWHERE: Place = Place { start: 0, end: 0 };
 
 // Before the first turn. No input has more lines than may follow.

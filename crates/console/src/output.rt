@@ -21,7 +21,8 @@ pub fn put(out: &mut [u8], at: usize, s: &[u8]) -> usize
     copy::lay(s, at, out)
 }
 
-// The number in decimal.
+// The number in decimal. Its digits, here and below, stand in an array that the library is lent,
+// since there is no heap.
 pub fn put_decimal(out: &mut [u8], at: usize, n: u64) -> usize
     ensures { PutsDecimal n at out.old result out.new }
 {

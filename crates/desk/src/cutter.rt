@@ -1,6 +1,7 @@
 // Cutting a modem's bytes into lines, with no array copied. `line` is lent, and its first `len`
 // bytes are held. The two are no struct: one that holds the lent array is no plainer, since each
-// method would have to promise that the array behind it is still the same.
+// method would have to promise that the array behind it is still the same. `chunk` is lent beside
+// them, as it is to the public `feed_on` (FeedOnKeeps).
 ghost use Rattle.std.specs.Prelude.{ℕ, ◌≡◌, false, [], ◌∷◌, ◌++◌, ◌≤◌, ◌<◌, length, take, slice_index};
 ghost use Rattle.desk.specs.Cut.{bare, is_prompt, cut_one};
 ghost use Rattle.desk.specs.Lines.{line_of};
@@ -10,7 +11,8 @@ ghost use Rattle.desk.specs.Says.{found_line, pushed_says, found_says};
 
 use text::copy;
 
-// What ends a feed: a line past its length, or the first bytes of the buffer, so many.
+// What ends a feed: a line past its length, or the first bytes of the buffer, so many. Both are
+// events, and in an `Option<usize>` the first would be a line that is missing.
 #[derive(Clone, Copy)]
 pub enum Piece {
     Overlong,
@@ -140,7 +142,7 @@ fn fill(line: &mut [u8; 257], len: usize, chunk: &[u8], at: usize) -> usize
 }
 
 // The search stops at the first byte that stops a feed; the count taken runs through that byte, or
-// is the whole chunk.
+// is the whole chunk. A loop, since document 01 wants one that yields the count by `break`.
 pub(crate) fn search(line: &mut [u8; 257], start: usize, chunk: &[u8]) -> Found
     ensures { found_says result line.new ≡ found_after 0 (tray_of line.old start) chunk.now }
 {

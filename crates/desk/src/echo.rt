@@ -13,7 +13,8 @@ pub(crate) fn size_of(sent: &[u8], echo: usize) -> usize
     if echo <= sent.len() { echo } else { 0 }
 }
 
-// Whether the line equals the command, with or without its final CR.
+// Whether the line equals the command, with or without its final CR. The two are compared, and a
+// struct of both would be no plainer.
 #[tactic(auto, using(crate::proofs::Echoing::echoes, text::proofs::Finding::same_is))]
 pub(crate) fn is_echo(line: &[u8], sent: &[u8]) -> bool
     ensures { result ≡ is_echo sent.now line.now }

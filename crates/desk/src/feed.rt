@@ -1,4 +1,6 @@
-// Bytes are fed to the desk, up to the first event.
+// Bytes are fed to the desk, up to the first event. What the public calls are lent is as their
+// contracts have it (FeedKeeps, FeedOnKeeps). `sent` and `line` are apart below them too: the one
+// is the desk's and the other the cutter's, and a struct of both would be no plainer.
 ghost use Rattle.std.specs.Prelude.{ℕ, ◌≡◌, ◌≤◌, length};
 ghost use Rattle.text.specs.Reading.{read};
 ghost use Rattle.desk.specs.Search.{Judges, Tells};
@@ -28,7 +30,9 @@ pub struct Feed {
     pub heard: Option<Heard>,
 }
 
-// Refused if the text buffer has fewer than 256 bytes.
+// Refused if the text buffer has fewer than 256 bytes. This and the next are beside `Opened` and
+// `OpenedParts`, which differ in what is answered: a generic of two parameters would say less than
+// the names.
 #[derive(Clone, Copy)]
 pub struct Fed {
     pub desk: Desk,

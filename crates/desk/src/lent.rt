@@ -1,5 +1,6 @@
 // A desk that is lent: it is handed to the by-value call, and what comes back is stored in its
-// place.
+// place. Each call, with its parameters, is public and has its contract (FeedLentKeeps,
+// OpenLentKeeps): so the two opens stay, each one call of `open_in_lent`.
 ghost use Rattle.desk.specs.Keeps.{ResetKeeps, FeedLentKeeps, OpenLentKeeps};
 ghost use Rattle.desk.specs.Rules.{plain_mode, echo_mode};
 ghost use Rattle.desk.specs.Says.{mode_says};

@@ -76,7 +76,8 @@ impl Event {
         }
     }
 
-    // The number of a stray that is refused, 0 of any other event.
+    // The number of a stray that is refused, 0 of any other event: C is told numbers
+    // (stray_number).
     pub fn stray(self) -> u64
         ensures { Gives (stray_number (event_says self)) result }
     {

@@ -1,4 +1,6 @@
-// A command is opened: its bytes are written, and its answers awaited.
+// A command is opened: its bytes are written, and its answers awaited. The calls, with a request,
+// its texts and the buffer as their parameters, are public and have their contracts (OpenKeeps,
+// OpenOnKeeps, OpenEchoOnKeeps): so `open` and `open_echo` stay, each one call of `open_in`.
 ghost use Rattle.desk.specs.Keeps.{OpenKeeps, OpenOnKeeps, OpenEchoOnKeeps};
 ghost use Rattle.desk.specs.Rules.{plain_mode, echo_mode};
 ghost use Rattle.desk.specs.Says.{mode_says};
@@ -96,6 +98,8 @@ pub fn open_echo_on(
 }
 
 impl Desk {
+    // A match: the call of echo mode is lent `sent` too, and a closure for each mode would be no
+    // plainer.
     pub fn open_in(
         mut self,
         mode: Mode,

@@ -79,7 +79,8 @@ fn significand(n: u64, d: u64) -> u32
     q + 1
 }
 
-// A decimal of at most fifteen digits: number / 10^places, or its negation.
+// A decimal of at most fifteen digits: number / 10^places, or its negation. The sign stands by
+// itself, since -0 is a numeral too, and no integer has it.
 #[derive(Clone, Copy)]
 struct Decimal {
     negative: bool,

@@ -56,7 +56,8 @@ fn told<W: Write>(out: &mut W, answer: Result<Feed, Refusal>, text: &[u8]) -> io
 }
 
 // Feeds a chunk, event by event, until all its bytes are taken. The desk is a local, lent to the
-// call that alters it. An error is the writer's, and the desk then goes with it.
+// call that alters it. An error is the writer's, and the desk then goes with it. A `while`, since a
+// turn takes as many bytes as the feed says, and no `for` goes by that.
 fn drain<W: Write>(out: &mut W, desk: Desk, chunk: &[u8]) -> io::Result<Desk>
     ensures { IfOk result (λ d. state_of d ≡ after_bytes (state_of desk) chunk.now) }
 {
@@ -71,7 +72,8 @@ fn drain<W: Write>(out: &mut W, desk: Desk, chunk: &[u8]) -> io::Result<Desk>
     Ok(desk)
 }
 
-// What is read is answered at once.
+// What is read is answered at once. The arrays, here and in `drain`, are lent to the calls, and of
+// fixed size, so that no input makes them grow.
 fn show<R: Read, W: Write>(reader: &mut R, out: &mut W, mode: Mode) -> io::Result<()> {
     let mut desk = Desk::new();
     let mut command = [0u8; 256];

@@ -1,4 +1,5 @@
-// The desk in lent parts: opened, fed, reset.
+// The desk in lent parts: opened, fed, reset. Numbers for kinds, and what is lent one by one, are
+// the C interface (bindings/c/sim7000.h): what the exports call is handed the same.
 ghost use Rattle.std.specs.Prelude.{◌≡◌, List, ℕ, length};
 ghost use Rattle.text.specs.says.Refusal.{refusal_said};
 ghost use Rattle.desk.specs.Rules.{plain_mode, echo_mode};

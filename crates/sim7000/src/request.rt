@@ -1,4 +1,5 @@
-// A request by its number, and its command written.
+// A request by its number, and its command written. Numbers for kinds, and what is lent one by one,
+// are the C interface (bindings/c/sim7000.h).
 ghost use Rattle.std.specs.Prelude.{◌≡◌, List, ℕ};
 ghost use Rattle.text.specs.says.Refusal.{refusal_said};
 ghost use Rattle.sim7000.specs.Command.{format_asked, asked_by};

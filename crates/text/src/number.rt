@@ -74,7 +74,8 @@ fn unsigned(s: &[u8], base: Base, max: u64) -> Option<u64>
     magnitude(s, base, max)
 }
 
-// A type that a number of up to its greatest fits.
+// A type that a number of up to its greatest fits. A trait of its own: TryFrom knows no greatest
+// value, and would answer an error that cannot come.
 trait Width: Sized {
     ghost value: { Self → ℕ };
 

@@ -19,7 +19,7 @@ use text::part;
 use text::refusal::Refusal;
 use unsolicited::{Urc, straight as urcs};
 
-// How many rows are those of responses.
+// How many rows are those of responses. A row is a number here too: `row::NONE` says why.
 const RESPONSES: usize = 13;
 
 // The thirteen responses: a line with the row of an unsolicited one, or of none, is none of theirs.

@@ -1,5 +1,8 @@
 // The modem's unsolicited codes, a module for each file of the Rust's at_command/unsolicited, and
-// their trial.
+// their trial. Each `from_line` is the Rust's public name, with the contract of its own that the
+// theorems cite: a trait over them would need both in each impl. Each `from_checked` and
+// `refusal_checked` has a prefix, a reader and a contract of its own: one function for all would be
+// handed the three, and be no plainer.
 #![tactic(auto)]
 
 mod calendar;

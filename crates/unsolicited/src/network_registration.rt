@@ -38,7 +38,7 @@ pub struct NetworkRegistration {
 impl From<i32> for RegistrationStatus {
     ghost from_gives = { λ number status. StatusKeeps number status };
 
-    // By its number; every other is as 0.
+    // By its number, in a match, since `as` makes no enum of a number; every other is as 0.
     #[tactic(auto, using(crate::proofs::Registrations::by_number))]
     fn from(number: i32) -> RegistrationStatus {
         match number {

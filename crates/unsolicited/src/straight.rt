@@ -1,5 +1,8 @@
 // One of the four readers, by its place in the order of trial, behind one check of the line: what
-// the second engine asks (document 02, CR 6).
+// the second engine asks (document 02, CR 6). It stands beside that of the responses, since each
+// crate knows its own readers. A place is a number, and one past the last is refused with 3:
+// UrcAtKeeps has it so. Two matches find the reader, by whose four arms a list of closures would be
+// no plainer.
 ghost use Rattle.std.specs.Prelude.{◌≡◌};
 ghost use Rattle.text.specs.Line.{refusal_by};
 ghost use Rattle.text.specs.Reading.{refusal_in};

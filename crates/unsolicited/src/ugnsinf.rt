@@ -163,6 +163,8 @@ impl<'a> Fields<'a> {
         Ok(Fields { rest, places })
     }
 
+    // That n is below 21 is asked here and below: each caller has a literal, and a type for it
+    // would ask the same where it is made.
     fn field(&self, n: usize) -> &'a [u8]
         requires { n < 21 }
         ensures { result.now ≡ nth n (fields 44 self.now.rest.now) }
@@ -185,7 +187,8 @@ impl<'a> Fields<'a> {
         numeral::read(self.field(n))
     }
 
-    // An empty field is zero.
+    // An empty field is zero, here and in the next. One function for both would be lent the reader,
+    // and its contract would have to say what that answers.
     #[tactic(auto, using(crate::proofs::Reports::optional))]
     fn float_or_zero(&self, n: usize) -> Option<f32>
         requires { n < 21 }

@@ -1,4 +1,5 @@
 -- Two divisions give the quotient and the remainder of n * 2 ^ 23 by d, and the remainder rounds.
+-- What four answers repeat is the call of one lemma, `under`, with what each goal's own record has.
 use mathlib.Core.Path.{◌≡◌, sym, ap, ◌∙◌}
 use Prim.Native.Nat.{ℕ, ◌+◌, ◌*◌, ◌/◌, ◌%◌, ◌^◌, ◌≤◌, ◌<◌}
 use native.Mathlib.Nat.{add-mul, mul_right_comm, div-add-mod', mod-lt, div-lt_iff_lt-mul}

@@ -1,3 +1,5 @@
+-- The three sums have one bound. Each goal is of a record of its own, so a lemma for the three
+-- would be handed all that the bound is of, one by one, and be no plainer.
 use borrow.Author.Rules.{rules}
 use Prim.Native.Nat.{◌+◌, ◌-◌, ◌≤◌}
 use lib.ListN.{length}

@@ -1,4 +1,5 @@
 -- The decimal digits, two ranges of letters, and the gaps between them.
+-- What three answers repeat is the call of one lemma, `no_digit`, with bounds of each goal's own.
 use Rattle.std.proofs.Common.{arith}
 use Rattle.text.proofs.Digits.{digit_09, digit_capital, digit_small, told_no, no_digit}
 use Rattle.text.proofs.number.digit_value.Goals as goal
