@@ -94,8 +94,8 @@ fn plus_row(b: u8, c: u8, d: u8, e: u8) -> usize
     }
 }
 
-// The first five bytes, each handed over by itself, here and above: a line, or a struct of them,
-// would be handed over through memory.
+// The first five bytes, each by itself, here and above: each function is for those at which its rows
+// part, and a struct of all five would say less of what it reads.
 fn letter_row(a: u8, b: u8, c: u8, d: u8, e: u8) -> usize
     ensures { (l : List ℕ) → Front (a ∷ b ∷ c ∷ d ∷ e ∷ []) l → ByLetters l result }
 {
