@@ -42,6 +42,12 @@ module _ (all : State) where
     taken_is : (feed desk (state_of d) rest).taken ≡ taken_by (answer_says r)
     taken_is = ap (λ (f : Stop State (Numbered Seen)). f.taken) is_feed
 
+    turn_most : taken_by (answer_says r) ≤ length rest
+    turn_most = omega (arith, taken_is, feed_most desk (state_of d) rest)
+
+    turn_some : 0 < length rest → 0 < taken_by (answer_says r)
+    turn_some h = omega (arith, taken_is, some_taken (state_of d) rest h)
+
     turn_on : after_bytes (state_of d) rest ≡ all → after_bytes (state_of d') (drop (taken_by (answer_says r)) rest) ≡ all
     turn_on inv =
         ap (λ (s : State). after_bytes s (drop (taken_by (answer_says r)) rest)) (ap (λ (f : Stop State (Numbered Seen)). f.state) (sym is_feed))
@@ -52,7 +58,7 @@ module _ (all : State) where
     -- all that a turn does, where it takes n bytes
     pub turned : (n : ℕ) → n ≡ taken_by (answer_says r) → 0 < length rest → after_bytes (state_of d) rest ≡ all → Turn rest all d' n
     turned n took h inv = record {
-      most = omega (arith, taken_is, feed_most desk (state_of d) rest);
-      some = omega (arith, taken_is, some_taken (state_of d) rest h);
+      most = omega (arith, turn_most);
+      some = omega (arith, turn_some h);
       on = rw took (turn_on inv);
     }
