@@ -1,5 +1,6 @@
 // Plays a capture on a desk of its own: a line of steps, in the script language of oracle/README.md. Each event is printed on a line of its own.
 use crate::commands::LONGEST;
+use crate::output::Output;
 use crate::show::{Hex, Refused};
 use crate::{commands, hex};
 use at_command::request::Request;
@@ -10,7 +11,7 @@ use std::io::Write;
 use text::refusal::Refusal;
 use text::{field, part};
 
-pub(crate) fn answer(out: &mut impl Write, line: &[u8]) -> io::Result<()> {
+pub(crate) fn answer<W: Write>(out: &mut Output<W>, line: &[u8]) -> io::Result<()> {
     // a line of which some bytes may be gone (see console::input) is no step
     let line = if line.len() <= LONGEST { line } else { b"" };
     let mut steps = line.split(|byte| *byte == b' ');
@@ -64,7 +65,7 @@ impl Session {
     }
 
     // The first step, which may be one that no other may.
-    fn begin(&mut self, step: &[u8], out: &mut impl Write) -> io::Result<()> {
+    fn begin<W: Write>(&mut self, step: &[u8], out: &mut Output<W>) -> io::Result<()> {
         if let Some((b'x', digits)) = step.split_first() {
             if let Some([byte]) = hex::decode(digits, &mut [0; 1]) {
                 *self = Session::aged(*byte);
@@ -75,7 +76,7 @@ impl Session {
     }
 
     // A step: a letter, and bytes in hexadecimal behind it.
-    fn step(&mut self, step: &[u8], out: &mut impl Write) -> io::Result<()> {
+    fn step<W: Write>(&mut self, step: &[u8], out: &mut Output<W>) -> io::Result<()> {
         let mut bytes = [0u8; 16384];
         let Some((letter, digits)) = step.split_first() else {
             return unknown(out);
@@ -97,14 +98,14 @@ impl Session {
                 self.desk.reset_lent();
                 Ok(())
             }
-            (b't', []) => writeln!(out, "text {}", Hex(&self.text)),
-            (b'c', []) => writeln!(out, "command {}", Hex(&self.command)),
+            (b't', []) => spelled(out, "text", &self.text),
+            (b'c', []) => spelled(out, "command", &self.command),
             _ => unknown(out),
         }
     }
 
     // Feeds a chunk, event by event, until all its bytes are taken.
-    fn feed_all(&mut self, chunk: &[u8], out: &mut impl Write) -> io::Result<()> {
+    fn feed_all<W: Write>(&mut self, chunk: &[u8], out: &mut Output<W>) -> io::Result<()> {
         let mut rest = chunk;
         // each feed takes a byte
         for _ in 0..chunk.len() {
@@ -118,7 +119,12 @@ impl Session {
     }
 
     // One feed, which is lent so many bytes for the text. Says how many it took, all where it is refused.
-    fn feed(&mut self, chunk: &[u8], room: usize, out: &mut impl Write) -> io::Result<usize> {
+    fn feed<W: Write>(
+        &mut self,
+        chunk: &[u8],
+        room: usize,
+        out: &mut Output<W>,
+    ) -> io::Result<usize> {
         let Session { desk, text, .. } = self;
         let text = &mut text[..];
         let room = room.min(text.len());
@@ -134,14 +140,14 @@ impl Session {
                 Ok(taken)
             }
             Err(refusal) => {
-                writeln!(out, "{}", Refused(refusal))?;
+                refused(out, refusal)?;
                 Ok(chunk.len())
             }
         }
     }
 
     // Opens a request by a call of the desk, in one mode or the other.
-    fn open<F>(&mut self, asked: &[u8], opens: F, out: &mut impl Write) -> io::Result<()>
+    fn open<F, W: Write>(&mut self, asked: &[u8], opens: F, out: &mut Output<W>) -> io::Result<()>
     where
         F: FnOnce(&mut Desk, Request, &[u8], &[u8], &mut [u8]) -> Result<usize, Refusal>,
         requires { F.IsAlwaysCallable opens }
@@ -160,21 +166,33 @@ impl Session {
         let command = &mut command[..];
         let room = (*room).min(command.len());
         match opens(desk, request, first, second, &mut command[..room]) {
-            Ok(n) => writeln!(out, "open {}", Hex(part::part(command, 0, n))),
-            Err(refusal) => writeln!(out, "{}", Refused(refusal)),
+            Ok(n) => spelled(out, "open", part::part(command, 0, n)),
+            Err(refusal) => refused(out, refusal),
         }
     }
 }
 
-fn unknown(out: &mut impl Write) -> io::Result<()> {
-    writeln!(out, "unknown")
+fn unknown<W: Write>(out: &mut Output<W>) -> io::Result<()> {
+    write!(out, "unknown")?;
+    out.end_line()
+}
+
+// A word, and bytes behind it.
+fn spelled<W: Write>(out: &mut Output<W>, word: &str, bytes: &[u8]) -> io::Result<()> {
+    write!(out, "{word} {}", Hex(bytes))?;
+    out.end_line()
+}
+
+fn refused<W: Write>(out: &mut Output<W>, refusal: Refusal) -> io::Result<()> {
+    write!(out, "{}", Refused(refusal))?;
+    out.end_line()
 }
 
 // What a desk heard, and its line.
-fn say(heard: Heard, text: &[u8], out: &mut impl Write) -> io::Result<()> {
+fn say<W: Write>(heard: Heard, text: &[u8], out: &mut Output<W>) -> io::Result<()> {
     write!(out, "{}", Said(heard))?;
     if 0 < heard.size {
         write!(out, " {}", Hex(part::part(text, 0, heard.size)))?;
     }
-    writeln!(out)
+    out.end_line()
 }

@@ -29,3 +29,23 @@ pub(crate) fn decode<'a>(hex: &[u8], out: &'a mut [u8]) -> Option<&'a [u8]> {
     }
     Some(out)
 }
+
+// The digit of what is below 16.
+fn digit_of(n: u8) -> u8
+    requires { n < 16 }
+{
+    b"0123456789abcdef"[usize::from(n)]
+}
+
+// Spells bytes at the front of out, as many as have room.
+pub(crate) fn encode<'a>(bytes: &[u8], out: &'a mut [u8]) -> &'a [u8] {
+    let n = bytes.len().min(out.len() / 2);
+    let out = &mut out[..2 * n];
+    for (pair, byte) in out.chunks_exact_mut(2).zip(bytes) {
+        if let [high, low] = pair {
+            *high = digit_of(*byte / 16);
+            *low = digit_of(*byte % 16);
+        }
+    }
+    out
+}

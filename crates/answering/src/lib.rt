@@ -32,7 +32,7 @@ pub enum Program {
 impl Program {
     // Writes the answer to a line, without the LF at its end. A match: a trait, or the four
     // functions handed over, would make public what stands in these four modules.
-    fn answer(self, out: &mut impl Write, line: &[u8]) -> io::Result<()> {
+    fn answer<W: Write>(self, out: &mut Output<W>, line: &[u8]) -> io::Result<()> {
         match self {
             Program::Lines => lines::answer(out, line),
             Program::Commands => commands::answer(out, line),
@@ -64,7 +64,7 @@ fn answer_all<R: Read, W: Write + Drop>(
         }
         let line = part::part(&buffer, turn.line.start, turn.line.end);
         program.answer(&mut out, line)?;
-        writeln!(out)?;
+        out.end_line()?;
     }
     Ok(())
 }

@@ -1,5 +1,5 @@
 // Says what a line says, in the formats of oracle/README.md. One CR at its end goes.
-use crate::show::{Bits, OrNone, Refused, quoted};
+use crate::show::{Bits, OrNone, Refused, decimal, quoted};
 use at_command::ResponseCode;
 use at_command::generic_response::SimError;
 use std::io;
@@ -26,8 +26,13 @@ fn response(out: &mut impl Write, line: &[u8], code: ResponseCode) -> io::Result
         ResponseCode::Ok(_) => write!(out, "GenericOk"),
         ResponseCode::Error(error) => sim_error(out, error),
         ResponseCode::WritePrompt(_) => write!(out, "WritePrompt"),
-        ResponseCode::CloseOk(close) => write!(out, "CloseOk {}", close.connection),
-        ResponseCode::Iccid(id) => write!(out, "Iccid {} {} {}", id.country, id.issuer, id.account),
+        ResponseCode::CloseOk(close) => write!(out, "CloseOk {}", decimal(close.connection)),
+        ResponseCode::Iccid(id) => {
+            let country = decimal(id.country);
+            let issuer = decimal(id.issuer);
+            let account = decimal(id.account);
+            write!(out, "Iccid {country} {issuer} {account}")
+        }
         ResponseCode::SignalQuality(quality) => {
             let strength = OrNone(quality.signal_strength.map(Bits));
             let errors = OrNone(quality.signal_quality.map(Bits));
@@ -54,7 +59,7 @@ fn response(out: &mut impl Write, line: &[u8], code: ResponseCode) -> io::Result
         }
         ResponseCode::DownloadInfo(info) => {
             let status = info.status_code;
-            write!(out, "DownloadInfo {status:?} {}", info.data_length)
+            write!(out, "DownloadInfo {status:?} {}", decimal(info.data_length))
         }
         ResponseCode::Imei(id) => {
             let version = if id.is_version_number { "version " } else { "" };
@@ -76,15 +81,15 @@ fn text(line: &[u8], place: Place) -> &[u8] {
 fn sim_error(out: &mut impl Write, error: SimError) -> io::Result<()> {
     match error {
         SimError::Generic => write!(out, "SimError Generic"),
-        SimError::CmeErr { code } => write!(out, "SimError CmeErr {code}"),
-        SimError::CmsErr { code } => write!(out, "SimError CmsErr {code}"),
+        SimError::CmeErr { code } => write!(out, "SimError CmeErr {}", decimal(code)),
+        SimError::CmsErr { code } => write!(out, "SimError CmsErr {}", decimal(code)),
     }
 }
 
 fn registration(out: &mut impl Write, registration: NetworkRegistration) -> io::Result<()> {
     let status = registration.status;
-    let lac = OrNone(registration.lac);
-    let ci = OrNone(registration.ci);
+    let lac = OrNone(registration.lac.map(decimal));
+    let ci = OrNone(registration.ci.map(decimal));
     write!(out, "NetworkRegistration {status:?} {lac} {ci}")
 }
 
@@ -92,7 +97,7 @@ fn gnss_report(out: &mut impl Write, report: GnssReport) -> io::Result<()> {
     match report {
         GnssReport::NotEnabled => write!(out, "GnssReport NotEnabled"),
         GnssReport::NoFix { sat_gps_view } => {
-            let view = OrNone(sat_gps_view);
+            let view = OrNone(sat_gps_view.map(decimal));
             write!(out, "GnssReport NoFix {view}")
         }
         GnssReport::Fix(fix) => gnss_fix(out, fix),
@@ -104,7 +109,12 @@ fn gnss_fix(out: &mut impl Write, fix: GnssFix) -> io::Result<()> {
     write!(
         out,
         "GnssReport Fix {} {} {} {} {} {}",
-        date.year, date.month, date.day, date.hour, date.minute, date.second
+        decimal(date.year),
+        decimal(date.month),
+        decimal(date.day),
+        decimal(date.hour),
+        decimal(date.minute),
+        decimal(date.second)
     )?;
     for float in [
         fix.latitude,
@@ -121,6 +131,9 @@ fn gnss_fix(out: &mut impl Write, fix: GnssFix) -> io::Result<()> {
     write!(
         out,
         " {} {} {} {}",
-        fix.sat_gps_in_view, fix.sat_gnss_used, fix.sat_glonass_used, fix.signal_noise_ratio
+        decimal(fix.sat_gps_in_view),
+        decimal(fix.sat_gnss_used),
+        decimal(fix.sat_glonass_used),
+        decimal(fix.signal_noise_ratio)
     )
 }

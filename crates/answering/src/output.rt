@@ -1,4 +1,7 @@
-// A writer with a buffer.
+// A writer with a buffer, and lines in it.
+ghost use Rattle.std.specs.Prelude.{IfOk};
+ghost use Rattle.console.specs.Output.{EndsLine};
+
 use console::output;
 use std::io;
 use std::io::Write;
@@ -22,6 +25,16 @@ impl<W: Write> Output<W> {
             buffer: [0; SIZE],
             waiting: 0,
         }
+    }
+
+    // Ends a line, and writes all that waits where the next might find too little room. No answer is
+    // as long as the room that is left, so the LF has its place. An error is as in `flush`, and the
+    // LF may wait too.
+    pub(crate) fn end_line(&mut self) -> io::Result<()>
+        ensures { IfOk result (λ _. EndsLine self.old.waiting self.old.buffer self.new.waiting self.new.buffer) }
+    {
+        self.waiting = output::end_line(&mut self.writer, &mut self.buffer, self.waiting)?;
+        Ok(())
     }
 }
 

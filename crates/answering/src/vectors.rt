@@ -1,6 +1,6 @@
 // Replays outside vectors: for a kind, a TAB and a text in hexadecimal, what the reader of that kind says of the text. oracle/README.md has the kinds, and where the vectors are from.
 use crate::hex;
-use crate::show::{Bits, Hex, OrNone, Refused};
+use crate::show::{Bits, Hex, OrNone, Refused, Signed, decimal};
 use at_command::cmgr::SmsMessage;
 use at_command::cntp::NetworkTime;
 use at_command::cops::OperatorInfo;
@@ -24,13 +24,13 @@ pub(crate) fn answer(out: &mut impl Write, line: &[u8]) -> io::Result<()> {
 // answer: a table of functions would be no plainer.
 fn read(out: &mut impl Write, kind: &[u8], s: &[u8]) -> io::Result<()> {
     match kind {
-        b"u8" => write!(out, "{}", OrNone(number::parse_u8(s))),
-        b"u16" => write!(out, "{}", OrNone(number::parse_u16(s))),
-        b"u32" => write!(out, "{}", OrNone(number::parse_u32(s))),
-        b"u64" => write!(out, "{}", OrNone(number::parse_u64(s))),
-        b"i32" => write!(out, "{}", OrNone(number::parse_i32(s))),
-        b"x16" => write!(out, "{}", OrNone(number::parse_hex_u16(s))),
-        b"x32" => write!(out, "{}", OrNone(number::parse_hex_u32(s))),
+        b"u8" => write!(out, "{}", OrNone(number::parse_u8(s).map(decimal))),
+        b"u16" => write!(out, "{}", OrNone(number::parse_u16(s).map(decimal))),
+        b"u32" => write!(out, "{}", OrNone(number::parse_u32(s).map(decimal))),
+        b"u64" => write!(out, "{}", OrNone(number::parse_u64(s).map(decimal))),
+        b"i32" => write!(out, "{}", OrNone(number::parse_i32(s).map(Signed))),
+        b"x16" => write!(out, "{}", OrNone(number::parse_hex_u16(s).map(decimal))),
+        b"x32" => write!(out, "{}", OrNone(number::parse_hex_u32(s).map(decimal))),
         b"f32" => write!(out, "{}", OrNone(numeral::read(s).map(Bits))),
         b"utf8" => out.write_all(if utf8::is_utf8(s) { b"yes" } else { b"no" }),
         _ => read_line(out, kind, s),
@@ -62,7 +62,7 @@ fn handed(out: &mut impl Write, text: Result<&[u8], Refusal>) -> io::Result<()> 
 fn success(out: &mut impl Write, line: &[u8]) -> io::Result<()> {
     match DownloadInfo::from_line(line).map(|info| info.status_code.success()) {
         Ok(Ok(())) => write!(out, "ok"),
-        Ok(Err(code)) => write!(out, "err {}", code.number()),
+        Ok(Err(code)) => write!(out, "err {}", decimal(code.number())),
         Err(refusal) => write!(out, "{}", Refused(refusal)),
     }
 }

@@ -1,11 +1,12 @@
 -- Pieces written one behind the other, of which the first 210 bytes are kept. Assumes nothing.
-use Rattle.std.proofs.Common.{◌≡◌, ℕ, zero, suc, ◌+◌, ◌-◌, ◌/◌, ◌%◌, ◌<◌, ◌≤◌, Bool, true, false, cond, ltb, ltb-true, ltb-false, List, [], ◌∷◌, ◌++◌, length, take, drop, min, sym, refl, ap, ◌∙◌, arith, append_assoc, append-nil}
+use Rattle.std.proofs.Common.{◌≡◌, ℕ, zero, suc, ◌+◌, ◌-◌, ◌/◌, ◌%◌, ◌<◌, ◌≤◌, Bool, true, false, cond, eqb, ltb, ltb-true, ltb-false, List, [], ◌∷◌, ◌++◌, length, take, drop, min, sym, refl, ap, ◌∙◌, arith, append_assoc, append-nil}
 use Rattle.std.proofs.lemmas.List.{take_at, take_all, take_min, length-take, length-take-le}
 use Rattle.std.proofs.Math.Seq.{take-append-add}
-use lib.ListN.{get_or, length-append}
-use lib.Seq.{take-suc}
+use lib.ListN.{get_or, set, length-append}
+use lib.Seq.{take-suc, take-suc-set}
 use native.Mathlib.Numerals.{add-one}
 use Rattle.text.specs.Copy.{least, room_for, LayKeeps}
+use Rattle.text.specs.Bytes.{count_of}
 use Rattle.at_command.specs.Piece.{marked, escape, escaped, quoted, decimal}
 use Rattle.at_command.proofs.Decimals.{decimal_one, decimal_more}
 
@@ -37,6 +38,15 @@ module _ (k : ℕ) (piece b : List ℕ) (n e : ℕ) (x : List ℕ) (size : lengt
       ∙ ap (λ (s : List ℕ). take n b ++ s) rest
       ∙ sym (ap (λ (j : ℕ). take j (take n b ++ piece)) whole ∙ take-append-add (take n b) piece (k - n))
 
+-- one byte behind the n that are kept of it, and one that has no room there
+pub byte_kept : (k n x : ℕ) (b : List ℕ) → length b ≡ k → n < k → take (n + 1) (set b n x) ≡ take k (take n b ++ x ∷ [])
+byte_kept k n x b size h =
+    let long : length (take n b ++ x ∷ []) ≤ k = omega (arith, length-append (take n b) (x ∷ []), length-take-le n b (omega arith)) in
+    ap (λ (j : ℕ). take j (set b n x)) (add-one n) ∙ take-suc-set b n x (omega arith) ∙ sym (take_all k (take n b ++ x ∷ []) long)
+
+pub byte_dropped : (k n x : ℕ) (b : List ℕ) → length b ≡ k → n ≤ k → k ≤ n → take n b ≡ take k (take n b ++ x ∷ [])
+byte_dropped k n x b size h most = let full : length (take n b) ≡ k = omega (arith, length-take-le n b (omega arith)) in sym (take_at (take n b) (x ∷ []) k full)
+
 -- a piece behind what was kept of another
 pub kept_on : (k : ℕ) (s t : List ℕ) → take k (take k s ++ t) ≡ take k (s ++ t)
 kept_on zero s t = refl
@@ -56,7 +66,7 @@ nothing e = record { is = e }
 kept_behind : (k : ℕ) (s p q : List ℕ) → take k (take k (s ++ p) ++ q) ≡ take k (s ++ (p ++ q))
 kept_behind k s p q = kept_on k (s ++ p) q ∙ ap (take k) (append_assoc s p q)
 
--- `Command::quoted`
+-- `push_text`, `lay_text` and `is_plain`, and `Command::quoted`
 next_byte : (s : List ℕ) (i : ℕ) → i < length s → take (i + 1) s ≡ take i s ++ get_or s i 0 ∷ []
 next_byte s i h = rw (add-one, take-suc s i 0)
 
@@ -81,17 +91,29 @@ module _ (s piece : List ℕ) (i : ℕ) (h : i < length piece) (m : Bool) (is : 
       ∙ kept_behind 210 s (escaped (take i piece) ++ 92 ∷ []) (x ∷ [])
       ∙ ap (λ (r : List ℕ). take 210 (s ++ r)) (append_assoc (escaped (take i piece)) (92 ∷ []) (x ∷ []) ∙ sym (next_escape (92 ∷ x ∷ []) (rw (sym is ∙ t))))
 
-pub none_escaped : (s : List ℕ) → take 210 s ≡ take 210 (s ++ [])
-none_escaped s = ap (take 210) (sym (append-nil s))
+-- a text with neither quote nor backslash
+pub none_marked : (s : List ℕ) → count_of 34 s ≡ 0 → count_of 92 s ≡ 0 → escaped s ≡ s
+none_marked [] e f = refl
+none_marked (x ∷ s) e f = go (eqb x 34) (eqb x 92) refl refl (λ p q. none_marked s p q)
+  where
+    go : (a b : Bool) → eqb x 34 ≡ a → eqb x 92 ≡ b → (count_of 34 s ≡ 0 → count_of 92 s ≡ 0 → escaped s ≡ s) → escaped (x ∷ s) ≡ x ∷ s
+    go true b p q rest = absurd (let z = rw p at e in omega arith)
+    go false true p q rest = absurd (let z = rw q at f in omega arith)
+    go false false p q rest =
+        let z = rw p at e in
+        let y = rw q at f in
+        rw (p, q) (ap (λ (r : List ℕ). x ∷ r) (rest (omega arith) (omega arith)))
 
-pub all_quoted : (s piece : List ℕ) (i : ℕ) → length piece ≤ i → take 210 (take 210 (s ++ 34 ∷ [] ++ escaped (take i piece)) ++ 34 ∷ []) ≡ take 210 (s ++ quoted piece)
+pub none_escaped : (s : List ℕ) → length s ≤ 210 → s ≡ take 210 (s ++ [])
+none_escaped s h = sym (ap (take 210) (append-nil s) ∙ take_all 210 s h)
+
+-- the text between its quotes
+pub all_quoted : (s piece : List ℕ) → take 210 (take 210 (take 210 (s ++ 34 ∷ []) ++ escaped piece) ++ 34 ∷ []) ≡ take 210 (s ++ quoted piece)
 unfolding quoted
-all_quoted s piece i h =
+all_quoted s piece =
     let e = escaped piece in
-    ap (λ (r : List ℕ). take 210 (take 210 (s ++ 34 ∷ [] ++ escaped r) ++ 34 ∷ [])) (take_all i piece h)
-    ∙ kept_on 210 (s ++ 34 ∷ [] ++ e) (34 ∷ [])
-    ∙ ap (λ (r : List ℕ). take 210 (r ++ 34 ∷ [])) (append_assoc s (34 ∷ []) e)
-    ∙ ap (take 210) (append_assoc s (34 ∷ [] ++ e) (34 ∷ []))
+    ap (λ (r : List ℕ). take 210 (r ++ 34 ∷ [])) (kept_behind 210 s (34 ∷ []) e)
+    ∙ kept_behind 210 s (34 ∷ [] ++ e) (34 ∷ [])
 
 -- `Command::decimal`
 module _ (s : List ℕ) (n d : ℕ) (is : d ≡ 48 + n % 10) where

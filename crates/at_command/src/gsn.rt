@@ -62,7 +62,7 @@ impl Imei {
     pub(crate) fn from_checked(line: &[u8]) -> Result<Imei, Refusal>
         ensures { says result ≡ imei_text line.now }
     {
-        if !bytes::all_digits(line) {
+        if 16 < line.len() || !bytes::all_digits(line) {
             return Err(Refusal::NotThisLine);
         }
         let imei = Place {

@@ -32,23 +32,24 @@ pub enum ResponseKind {
     SmsMessage = 12,
 }
 
-impl ResponseKind {
-    const ALL: [ResponseKind; 13] = [
-        ResponseKind::GenericOk,
-        ResponseKind::SimError,
-        ResponseKind::WritePrompt,
-        ResponseKind::CloseOk,
-        ResponseKind::Iccid,
-        ResponseKind::SignalQuality,
-        ResponseKind::SystemInfo,
-        ResponseKind::OperatorInfo,
-        ResponseKind::NetworkTime,
-        ResponseKind::DownloadInfo,
-        ResponseKind::Imei,
-        ResponseKind::SmsMessageFormat,
-        ResponseKind::SmsMessage,
-    ];
+// In the order of their numbers. A static: of a const array a copy is laid on the stack at each use.
+static KINDS: [ResponseKind; 13] = [
+    ResponseKind::GenericOk,
+    ResponseKind::SimError,
+    ResponseKind::WritePrompt,
+    ResponseKind::CloseOk,
+    ResponseKind::Iccid,
+    ResponseKind::SignalQuality,
+    ResponseKind::SystemInfo,
+    ResponseKind::OperatorInfo,
+    ResponseKind::NetworkTime,
+    ResponseKind::DownloadInfo,
+    ResponseKind::Imei,
+    ResponseKind::SmsMessageFormat,
+    ResponseKind::SmsMessage,
+];
 
+impl ResponseKind {
     // How many kinds are tried before this one.
     pub fn place(self) -> u8
         ensures { Gives (place_of (kind_says self)) result }
@@ -61,7 +62,7 @@ impl ResponseKind {
     pub fn at(place: u64) -> ResponseKind
         ensures { KindAtKeeps place result }
     {
-        ResponseKind::ALL[place.min(12) as usize]
+        KINDS[place.min(12) as usize]
     }
 }
 

@@ -24,7 +24,9 @@ use crate::httptofs::DownloadInfo;
 use text::line;
 use text::refusal::Refusal;
 
-// What the reader at a place says, without the line check.
+// What the reader at a place says, without the line check. Inlined, as `read_at` is: where only the
+// refusal is wanted, no value is made.
+#[inline(always)]
 pub(crate) fn checked_at(place: usize, line: &[u8]) -> Result<ResponseCode, Refusal>
     ensures { says result ≡ reading_at place line.now }
 {
@@ -47,6 +49,7 @@ pub(crate) fn checked_at(place: usize, line: &[u8]) -> Result<ResponseCode, Refu
 }
 
 // What the reader at a place says of the line; past the last, 3.
+#[inline(always)]
 pub fn read_at(place: usize, line: &[u8]) -> Result<ResponseCode, Refusal>
     ensures { ResponseAtKeeps place line.now result }
 {

@@ -1,7 +1,7 @@
 // What the writers of requests share: the check of texts, and the command as it is written.
-ghost use Rattle.std.specs.Prelude.{ℕ, ◌≡◌, List, [], ◌∷◌, ◌++◌, ◌+◌, ◌%◌, ◌≤◌, length, take};
+ghost use Rattle.std.specs.Prelude.{ℕ, ◌≡◌, true, List, [], ◌∷◌, ◌++◌, ◌+◌, ◌*◌, ◌%◌, ◌≤◌, length, take};
 ghost use Rattle.text.specs.says.Refusal.{refusal_said};
-ghost use Rattle.at_command.specs.Piece.{marked, quoted, decimal};
+ghost use Rattle.at_command.specs.Piece.{marked, escaped, quoted, decimal};
 ghost use Rattle.at_command.specs.Request.{up_to, refusal_of, fitting, LeavesWritten};
 ghost use Rattle.at_command.specs.says.Request.{encoded_says};
 
@@ -54,6 +54,61 @@ pub(crate) fn plain(command: &[u8], out: &mut [u8]) -> Result<usize, Refusal>
 // The most bytes that a command has.
 const MOST: usize = 210;
 
+// Lays a byte behind the first len, or drops it where there is no room, and says how many stand
+// there.
+fn push(x: u8, len: usize, bytes: &mut [u8; MOST]) -> usize
+    requires { len ≤ 210 }
+    ensures most { result ≤ 210 }
+    ensures kept { take result bytes.new ≡ take 210 (take len bytes.old ++ x ∷ []) }
+{
+    if len < MOST {
+        bytes[len] = x;
+        return len + 1;
+    }
+    len
+}
+
+// The same of a text, with a backslash before each quote and backslash.
+fn push_text(piece: &[u8], len: usize, bytes: &mut [u8; MOST]) -> usize
+    requires { len ≤ 210 }
+    ensures most { result ≤ 210 }
+    ensures kept { take result bytes.new ≡ take 210 (take len bytes.old ++ escaped piece.now) }
+{
+    let mut end = len;
+    for x in piece {
+        if is_marked(*x) {
+            end = push(b'\\', end, bytes);
+        }
+        end = push(*x, end, bytes);
+    }
+    end
+}
+
+// The same where all surely has room, which is asked once and not at each byte.
+fn lay_text(piece: &[u8], len: usize, bytes: &mut [u8; MOST]) -> usize
+    requires { len + 2 * length piece.now ≤ 210 }
+    ensures most { result ≤ 210 }
+    ensures kept { take result bytes.new ≡ take 210 (take len bytes.old ++ escaped piece.now) }
+{
+    let mut end = len;
+    for x in piece {
+        if is_marked(*x) {
+            bytes[end] = b'\\';
+            end += 1;
+        }
+        bytes[end] = *x;
+        end += 1;
+    }
+    end
+}
+
+// Whether no byte of a text wants a backslash.
+fn is_plain(piece: &[u8]) -> bool
+    ensures { result ≡ true → escaped piece.now ≡ piece.now }
+{
+    bytes::count_byte(piece, b'"') == 0 && bytes::count_byte(piece, b'\\') == 0
+}
+
 // A command that is being written, piece behind piece, until it goes into the buffer that is lent
 // for it. What goes past its 210 bytes is dropped: no request has a longer command. It is an array
 // and a length, since the library has no heap.
@@ -81,9 +136,7 @@ impl Command {
         }
     }
 
-    // Never inlined: where LLVM sees the piece, it clears the rest by memset, and the archive needs
-    // memcpy alone.
-    #[inline(never)]
+    #[inline(always)]
     pub(crate) fn text(&mut self, piece: &[u8])
         ensures { self.new ≡ take 210 (self.old ++ piece.now) }
     {
@@ -93,7 +146,20 @@ impl Command {
     pub(crate) fn byte(&mut self, x: u8)
         ensures { self.new ≡ take 210 (self.old ++ x ∷ []) }
     {
-        self.text(&[x]);
+        self.len = push(x, self.len, &mut self.bytes);
+    }
+
+    // The text, with a backslash before each quote and backslash. Most have none, and go whole.
+    fn escaped(&mut self, piece: &[u8])
+        ensures { self.new ≡ take 210 (self.old ++ escaped piece.now) }
+    {
+        if is_plain(piece) {
+            self.text(piece);
+        } else if piece.len() <= (MOST - self.len) / 2 {
+            self.len = lay_text(piece, self.len, &mut self.bytes);
+        } else {
+            self.len = push_text(piece, self.len, &mut self.bytes);
+        }
     }
 
     // The text in quotes, as `{:?}` writes it: a backslash before each quote and backslash.
@@ -101,12 +167,7 @@ impl Command {
         ensures { self.new ≡ take 210 (self.old ++ quoted piece.now) }
     {
         self.byte(b'"');
-        for x in piece {
-            if is_marked(*x) {
-                self.byte(b'\\');
-            }
-            self.byte(*x);
-        }
+        self.escaped(piece);
         self.byte(b'"');
     }
 

@@ -2,27 +2,18 @@
 use mathlib.Core.Path.{◌≡◌, sym, ap, subst, ◌∙◌}
 use mathlib.Core.Bool.{cond}
 use mathlib.Core.List.{List}
-use Prim.Native.Nat.{ℕ, ◌-◌, ◌≤◌, ◌<◌}
-use native.Mathlib.Nat.{le_trans, le_antisymm, lt_irrefl, lt_of_lt_of_le, lt_of_not-le, le_of_suc-le-suc, pow-le-pow_right}
+use Prim.Native.Nat.{ℕ, ◌-◌, ◌<◌}
 use native.Mathlib.Omega.{arith}
 use lib.Dec.{ltb}
 use lib.ListN.{length}
-use Rattle.io.specs.Digits.{last_digits, IsDigitCount}
+use Rattle.io.specs.Digits.{last_digits}
 use Rattle.text.specs.Bytes.{bytes}
+use Rattle.console.proofs.Digits.{one_count}
 use Rattle.console.specs.Output.{Puts, PutsNumber, PutsDecimal, PutsHex, EndsLine}
 
 -- one answer: output::put
 pub one_put : (s before x y : List ℕ) (at e f : ℕ) → Puts s at before e x → Puts s at before f y → (e ≡ f) × (x ≡ y)
 one_put s before x y at e f p q = (p.ends ∙ sym q.ends, p.holds ∙ sym q.holds)
-
--- of two counts of digits that are the fewest, none is the smaller
-no_fewer : (base least n k l : ℕ) → 0 < base → IsDigitCount base least n k → IsDigitCount base least n l → l ≤ k
-no_fewer base least n k l b f g =
-    le_of_suc-le-suc (lt_of_not-le (λ (h : k < l).
-    lt_irrefl n (lt_of_lt_of_le f.1 (le_trans (pow-le-pow_right b (omega arith)) (g.2 (omega (arith, f.0)))))))
-
-one_count : (base least n k l : ℕ) → 0 < base → IsDigitCount base least n k → IsDigitCount base least n l → k ≡ l
-one_count base least n k l b f g = le_antisymm (no_fewer base least n l k b g f) (no_fewer base least n k l b f g)
 
 one_number : (base least n : ℕ) → 0 < base → (before x y : List ℕ) (at e f : ℕ) → PutsNumber base least n at before e x → PutsNumber base least n at before f y → (e ≡ f) × (x ≡ y)
 one_number base least n b before x y at e f p q =

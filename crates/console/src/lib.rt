@@ -1,7 +1,8 @@
 // What the programs share: lines cut from a reader, what is written in a buffer before it goes out,
-// and the words of events.
+// numbers, and the words of events.
 #![tactic(auto)]
 
 pub mod input;
+pub mod number;
 pub mod output;
 pub mod said;

@@ -110,12 +110,12 @@ fed_refused s chunk text h = rw (lt-ltb (length text) 256 h)
 found_whole : (t : Tray) (chunk : List ℕ) → found_after 0 t chunk ≡ feed buffered t chunk
 found_whole t chunk = let e : 0 + (feed buffered t chunk).taken ≡ (feed buffered t chunk).taken = omega arith in rw e
 
-pub fed_ruled : (s : State) (chunk text : List ℕ) {f : Stop Tray Line} {k : Kept} {answer : Reading Heard} {after : List ℕ} → f ≡ found_after 0 s.wire chunk → 256 ≤ length text
-    → Tells s.command f.tell f.taken text k answer after
-    → record { state = record { wire = f.state; command = k }; answer = answer; text = after } ≡ fed s chunk text
+pub fed_ruled : (s : State) (chunk text : List ℕ) {f : Stop Tray Line} {t : Tray} {k : Kept} {answer : Reading Heard} {after : List ℕ} → f ≡ found_after 0 s.wire chunk → 256 ≤ length text
+    → Tells s.command f.tell f.taken text k answer after → t ≡ f.state
+    → record { state = record { wire = t; command = k }; answer = answer; text = after } ≡ fed s chunk text
 unfolding fed
-fed_ruled s chunk text e h r =
-    rw (r.commands, r.answers, r.texts, e ∙ found_whole s.wire chunk, le-ltb (length text) 256 h, judged_feed judge_kept buffered chunk s)
+fed_ruled s chunk text e h r w =
+    rw (w, r.commands, r.answers, r.texts, e ∙ found_whole s.wire chunk, le-ltb (length text) 256 h, judged_feed judge_kept buffered chunk s)
 
 -- ---- what a feed answers and keeps: it is refused, or a search told a line or none
 

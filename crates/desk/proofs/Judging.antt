@@ -124,20 +124,6 @@ module _ (sort_of : List ℕ → Reading Sort) where
   ruling_event o ks l =
       ruling_cases (λ r. r.event ≡ J.Overlong → ⊥) o ks l (table_event (awaiting ks) (sort_of l)) (λ e. never (cc)) (table_event idle (sort_of l))
 
-  -- what holds of every event that a line may be holds of what it is: of a stray's number, where it is refused, by its sort
-  pub judge_event : (P : J.Event → Type 0) (c : Command) (l : Line) → P J.Overlong → ((s : List ℕ) → P (J.Stray (J.number_of (sort_of s)))) → P J.Failed → P J.Taken → P J.Done → P J.Short
-      → P J.Unsolicited → P (J.Stray 0) → P J.Echo → P (judge sort_of c l).event.event
-  unfolding judge
-  judge_event P c overlong over strays fails taken done shorts unasked other echoed = over
-  judge_event P c (line l) over strays fails taken done shorts unasked other echoed = ruling_cases (λ r. P r.event) c.echo c.awaited l (by_table (awaiting c.awaited)) echoed (by_table idle)
-    where
-      last : (t : Bool) → P (cond t J.Taken J.Done)
-      last true = taken
-      last false = done
-
-      by_table : (d : Command) → P (table d (sort_of l)).event
-      by_table d = table_cases (λ r. P r.event) d (sort_of l) (strays l) fails (last (any_awaited (drop 1 d.awaited))) shorts unasked other
-
   -- the echo after a line is none, or the one before it
   pub echo_after : (P : Option (List ℕ) → Type 0) → P none → (c : Command) → P c.echo → (l : Line) → P (judge sort_of c l).command.echo
   unfolding judge

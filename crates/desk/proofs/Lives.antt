@@ -1,14 +1,11 @@
 -- Demand 3 is not empty: from every desk that is idle and holds nothing there is a session of every request that its writer does not refuse, and it takes any bytes.
 use Prim.Native.Nat.{ℕ, zero, suc, ◌≤◌}
 use mathlib.Core.Path.{◌≡◌, refl, sym, ap, subst, ◌∙◌}
-use mathlib.Core.Bool.{Bool, true, false, cond}
-use lib.Dec.{ltb}
+use mathlib.Core.Bool.{true, false}
 use mathlib.Core.List.{List, [], ◌∷◌, ◌++◌}
 use Rattle.std.specs.Prelude.{Option, Some, None, Result, Ok, Err}
-use mathlib.Core.Option as M
-use Rattle.text.specs.Utf8.{utf8}
 use Rattle.text.specs.declared.refusal.Refusal.{Refusal}
-use Rattle.text.specs.declared.refusal.Refusal.TheVariants.{LineTooLong, NotUtf8, NotThisLine, TextTooLong, TextBufferTooSmall, NoSuchDate}
+use Rattle.text.specs.declared.refusal.Refusal.TheVariants.{TextBufferTooSmall}
 use native.Mathlib.Omega.{arith}
 use lib.ListN.{length, take, drop, replicate, length-drop, take-append-drop}
 use borrow.Author.Tests.{le-ltb, leb-true}
@@ -21,18 +18,13 @@ use Rattle.at_command.specs.declared.request.Awaits.TheVariants.{One, Two}
 use Rattle.at_command.specs.declared.request.Request.{Request}
 use Rattle.at_command.specs.declared.request.Request.TheVariants.{GetSignalQuality}
 use Rattle.at_command.proofs.OneRequest.{kind}
-use Rattle.trial.specs.Answer.{line_said, all_readings}
-use Rattle.trial.specs.Refusals.{one_refuses}
-use Rattle.trial.specs.Sort.{Sort, sort_of, line_sort}
-use Rattle.trial.proofs.Order.{renamed, refusal_order}
-use Rattle.desk.specs.Lines.{Line}
-use Rattle.desk.specs.Machine.{Stop, feed, event_of}
-use Rattle.desk.specs.Ordinal.{capped, Numbered}
+use Rattle.desk.specs.Machine.{Stop, feed}
+use Rattle.desk.specs.Ordinal.{Numbered}
 use Rattle.desk.specs.Judge as J
-use Rattle.desk.specs.Judge.{Seen, Command, is_open, judge}
+use Rattle.desk.specs.Judge.{Seen, Command, is_open}
 use Rattle.desk.specs.Desk as D
-use Rattle.desk.specs.Desk.{State, view_of, command_kept, keep, judge_kept, desk, event, heard_of, fed, is_clear, opened}
-use Rattle.desk.specs.Says.{command_says, stray_says, event_says, answer_says, state_of}
+use Rattle.desk.specs.Desk.{State, view_of, command_kept, keep, judge_kept, desk, quiet, event, fed, is_clear, opened}
+use Rattle.desk.specs.Says.{command_says, event_says, feed_says, answer_says, state_of}
 use Rattle.desk.specs.Keeps.{command_by, opened_by}
 use Rattle.desk.specs.Rules.{Mode}
 use Rattle.desk.specs.Demand.{Turn, Openings, Feeds, accepts, turn_of, bytes_of, Run, ends, feeds, Lives}
@@ -41,11 +33,11 @@ use Rattle.desk.specs.Calls.{DeskOpens, DeskFeeds}
 use Rattle.desk.specs.declared.Desk.{Desk}
 use Rattle.desk.specs.declared.feed.Feed.{Feed}
 use Rattle.desk.proofs.Machine.{feed_some}
-use Rattle.desk.proofs.Judging.{Few, judge_few, judge_event}
+use Rattle.desk.proofs.Judging.{Few, judge_few}
 use Rattle.desk.proofs.Feeding.{fed_cases, fed_command}
 use Rattle.desk.proofs.Commands.{command_few}
 use Rattle.desk.proofs.Demand.{Sound, desk_sound}
-use Rattle.desk.proofs.One.{command_in, stray_in, stray_back, event_in, heard_in, desk_in}
+use Rattle.desk.proofs.One.{command_in, event_in, heard_in, desk_in}
 
 -- ---- feeds that can go on from every good desk take any bytes
 
@@ -123,30 +115,22 @@ state_says s h =
     ap (λ (ks : List Kind). record { wire = s.wire; command = record { sent = s.command.sent; size = s.command.size; awaited = ks; counted = s.command.counted } })
     (command_says_lem s.command.awaited h)
 
--- every number of a stray that a line gets is that of a refusal, or 0
-stray_again : (o : Option Refusal) → stray_says (stray_in (stray_says o)) ≡ stray_says o
-stray_again o = ap stray_says (stray_back o)
-
-stray_known : (l : List ℕ) → let n = J.number_of (line_sort l) in stray_says (stray_in n) ≡ n
-unfolding line_sort
-stray_known l = by_sort (line_sort l) refl
-  where
-    by_refusal : (a b c d : Bool) → let n : ℕ = cond a 1 (cond b (cond c 4 (cond d 13 3)) 2) in stray_says (stray_in n) ≡ n
-    by_refusal true b c d = stray_again (Some LineTooLong)
-    by_refusal false false c d = stray_again (Some NotUtf8)
-    by_refusal false true true d = stray_again (Some TextTooLong)
-    by_refusal false true false true = stray_again (Some NoSuchDate)
-    by_refusal false true false false = stray_again (Some NotThisLine)
-
-    by_sort : (s : Reading Sort) → line_sort l ≡ s → stray_says (stray_in (J.number_of s)) ≡ J.number_of s
-    by_sort (read x) e = stray_again None
-    by_sort (refused n) e =
-        rw (refusal_order l (sym (renamed sort_of (line_said l) n e)))
-        (by_refusal (ltb 256 (length l)) (utf8 l) (one_refuses 4 (all_readings l)) (one_refuses 13 (all_readings l)))
-
-event_known : (c : Command) (l : Line) → let e = (judge line_sort c l).event.event in event_says (event_in e) ≡ e
+-- every event is what some event of the code says, and every telling what some feed does
+event_says_lem : (e : J.Event) → event_says (event_in e) ≡ e
 unfolding event_in
-event_known c l = judge_event line_sort (λ e. event_says (event_in e) ≡ e) c l refl (λ s. ap J.Stray (stray_known s)) refl refl refl refl refl (ap J.Stray (stray_again None)) refl
+event_says_lem J.Overlong = refl
+event_says_lem (J.Stray n) = refl
+event_says_lem J.Failed = refl
+event_says_lem J.Taken = refl
+event_says_lem J.Done = refl
+event_says_lem J.Short = refl
+event_says_lem J.Unsolicited = refl
+event_says_lem J.Echo = refl
+
+heard_says_lem : (h : D.Heard) → feed_says (heard_in h) ≡ h
+unfolding heard_in
+heard_says_lem (quiet n) = refl
+heard_says_lem (event e ordinal n size) = ap (λ (x : J.Event). event x ordinal n size) (event_says_lem e)
 
 -- the answer of a feed, as the code has it: no feed is refused with another number than 10
 unfoldable answer_in : Reading D.Heard → Result Feed Refusal
@@ -154,12 +138,8 @@ answer_in (refused k) = Err TextBufferTooSmall
 answer_in (read h) = Ok (heard_in h)
 
 answer_known : (s : State) (chunk text : List ℕ) → let a = (fed s chunk text).answer in answer_says (answer_in a) ≡ a
-unfolding answer_in heard_in judge_kept
-answer_known s chunk text = fed_cases (λ a k. answer_says (answer_in a) ≡ a) s chunk text refl (λ n o. by n o)
-  where
-    by : (n : ℕ) (o : M.Option Line) → let a = read (heard_of n (event_of (M.map (judge_kept s.command) o))) in answer_says (answer_in a) ≡ a
-    by n M.none = refl
-    by n (M.some l) = ap (λ (e : J.Event). read (event e (capped (suc s.command.counted)) n (length (judge line_sort (command_kept s.command) l).event.line))) (event_known (command_kept s.command) l)
+unfolding answer_in
+answer_known s chunk text = fed_cases (λ a k. answer_says (answer_in a) ≡ a) s chunk text refl (λ n o. ap read (heard_says_lem _))
 
 two_at_most : (c : Option Awaits) → length (command_says c).awaited ≤ 2
 two_at_most None = omega arith

@@ -2,11 +2,10 @@
 use Prim.Native.Nat.{ℕ}
 use mathlib.Core.Path.{◌≡◌, refl, sym, ap, ◌∙◌}
 use mathlib.Core.List.{List, [], ◌∷◌}
-use Rattle.std.specs.Prelude.{Option, Some, None, Result, Ok, Err}
+use Rattle.std.specs.Prelude.{Option, Some, None, Result}
 use lib.ListN.{replicate}
 use Rattle.text.specs.declared.refusal.Refusal.{Refusal}
 use Rattle.text.proofs.One.{one_reading}
-use Rattle.text.proofs.Refusals.{check_at, back_check}
 use Rattle.at_command.specs.Kind.{Kind}
 use Rattle.at_command.specs.says.Request.{encoded_says}
 use Rattle.at_command.specs.declared.request.Awaits.{Awaits}
@@ -16,7 +15,7 @@ use Rattle.at_command.proofs.OneRequest.{kind, kind_back}
 use Rattle.desk.specs.Judge as J
 use Rattle.desk.specs.Desk as D
 use Rattle.desk.specs.Desk.{quiet, event}
-use Rattle.desk.specs.Says.{command_says, stray_says, event_says, feed_says, answer_says, state_in, state_of, opened_parts_says}
+use Rattle.desk.specs.Says.{command_says, event_says, feed_says, answer_says, state_in, state_of, opened_parts_says}
 use Rattle.desk.specs.Keeps.{NewKeeps, ResetKeeps, FeedKeeps, FeedLentKeeps, FeedOnKeeps, OpenKeeps, OpenLentKeeps, OpenOnKeeps, OpenEchoOnKeeps}
 use Rattle.desk.specs.Rules.{Mode}
 use Rattle.desk.specs.declared.Event.{Event}
@@ -44,21 +43,9 @@ command_back None = refl
 command_back (Some (One a)) = rw (kind_back a)
 command_back (Some (Two a b)) = rw (kind_back a, kind_back b)
 
-stray_of : Result Unit Refusal → Option Refusal
-stray_of (Ok v) = None
-stray_of (Err k) = Some k
-
-pub stray_in : ℕ → Option Refusal
-stray_in n = stray_of (check_at n)
-
-pub stray_back : (o : Option Refusal) → stray_in (stray_says o) ≡ o
-unfolding stray_in stray_of
-stray_back None = ap stray_of (back_check (Ok tt))
-stray_back (Some k) = ap stray_of (back_check (Err k))
-
 unfoldable pub event_in : J.Event → Event
 event_in J.Overlong = E.Overlong
-event_in (J.Stray n) = E.Stray (stray_in n)
+event_in (J.Stray n) = E.Stray n
 event_in J.Failed = E.Failed
 event_in J.Taken = E.Taken
 event_in J.Done = E.Done
@@ -69,7 +56,7 @@ event_in J.Echo = E.Echo
 event_back : (e : Event) → event_in (event_says e) ≡ e
 unfolding event_in
 event_back E.Overlong = refl
-event_back (E.Stray o) = ap E.Stray (stray_back o)
+event_back (E.Stray n) = refl
 event_back E.Failed = refl
 event_back E.Taken = refl
 event_back E.Done = refl

@@ -1,20 +1,24 @@
 -- Laws of a search through a chunk: its turns, the bytes that are laid at once, and the bytes with no LF.
-use Prim.Native.Nat.{ℕ, zero, suc, min, ◌+◌, ◌-◌, ◌≤◌, ◌<◌}
+use Prim.Native.Nat.{ℕ, zero, suc, min, ◌+◌, ◌-◌, ◌*◌, ◌/◌, ◌%◌, ◌^◌, ◌≤◌, ◌<◌}
 use mathlib.Core.Path.{◌≡◌, refl, sym, ap, ◌∙◌}
-use mathlib.Core.Bool.{Bool, true, false}
+use mathlib.Core.Bool.{Bool, true, false, cond}
 use mathlib.Core.Logic.{⊎_elim}
-use mathlib.Core.List.{List, [], ◌∷◌, ◌++◌}
+use mathlib.Core.List.{List, [], ◌∷◌, ◌++◌, map as map_list}
 use mathlib.Core.Option.{Option, none, some}
 use Rattle.std.specs.Prelude as P
 use native.Mathlib.Omega.{arith}
 use native.Mathlib.Numerals.{add-one}
-use lib.ListN.{length, take, drop, get_or, set, length-set, length-drop, drop_of_length-le}
-use Rattle.text.specs.Copy.{LayKeeps}
-use Rattle.text.proofs.Copying.{whole_holds}
+use lib.ListN.{length, take, drop, get_or, set, replicate, length-set, length-drop, drop_of_length-le}
+use Rattle.text.proofs.Copying.{stored, lay_on, lay_more}
+use borrow.Author.Count.{below_more}
 use Rattle.std.proofs.lemmas.List.{take-take, get_or-drop}
-use lib.Seq.{length-take-le, drop-cons, get_or-take, get_or-set_same, paste, paste-zero, paste-suc}
-use lib.Dec.{eqb}
-use borrow.Author.Tests.{eqb-true, eqb-false}
+use Rattle.std.proofs.lemmas.Simd.{bitmask_splat, none_from_empty_mask}
+use lib.Lanes.{put_chunk, mask_l, top, zip2}
+use mir.Syntax.{w8}
+use mir.Val.{bits, hbits}
+use lib.Seq.{length-take-le, drop-cons, get_or-take, get_or-set_same, paste, paste-zero, paste-suc, length-paste, take_all}
+use lib.Dec.{eqb, ltb}
+use borrow.Author.Tests.{eqb-true, eqb-false, ltb-true, ltb-false}
 use Rattle.desk.specs.Cut.{is_prompt}
 use Rattle.desk.specs.Machine.{Step, Stop, onward, feed}
 use Rattle.desk.specs.Lines.{Line}
@@ -141,19 +145,69 @@ module _ {s : List ℕ} {len : ℕ} {chunk : List ℕ} {at : ℕ} where
       let step = paste-suc s len (drop at chunk) n 0 (omega arith) (omega (arith, length-drop at chunk)) in
       rw (← step, get_or-drop at chunk n 0, ← add-one n) l
 
-  -- the bytes before the first LF of those that have room
-  pub filled_to : {rest after : List ℕ} {most n e : ℕ} → length s ≡ 257 → Plain s len (get_or chunk at 0) → len ≤ 256 → at ≤ length chunk → rest ≡ drop at chunk → most ≡ min (length rest) (256 - len)
-      → (n ≤ length (take most rest)) × ((k : ℕ) → k < n → get_or (take most rest) k 0 ≡ 10 → ⊥) → LayKeeps (take n (take most rest)) len s e after → Filled s len chunk at n after
-  filled_to {rest} {after} {most} {n} {e} full p room more rest_is most_is is lays =
+  -- the bytes before an LF of those that have room
+  pub filled_to : {rest after : List ℕ} {most n : ℕ} → length s ≡ 257 → Plain s len (get_or chunk at 0) → len ≤ 256 → at ≤ length chunk → rest ≡ drop at chunk → most ≡ min (length rest) (256 - len)
+      → n ≤ length (take most rest) → ((k : ℕ) → k < n → get_or (take most rest) k 0 ≡ 10 → ⊥) → after ≡ paste s len (take most rest) n → Filled s len chunk at n after
+  filled_to {rest} {after} {most} {n} full p room more rest_is most_is few clear laid =
       let d_long : length rest ≡ length chunk - at = ap length rest_is ∙ length-drop at chunk in
       let size : length (take most rest) ≡ most = length-take-le most rest (omega arith) in
-      let few : n ≤ most = omega (arith, is.0) in
+      let some : n ≤ most = omega arith in
       let other : (k : ℕ) → k < n → get_or chunk (at + k) 0 ≡ 10 → ⊥ =
-      λ k h e. is.1 k h (get_or-take most rest k 0 (omega arith) ∙ ap (λ (l : List ℕ). get_or l k 0) rest_is ∙ get_or-drop at chunk k 0 ∙ e) in
-      let piece : take n (take most rest) ≡ take n (drop at chunk) = take-take n most rest few ∙ ap (take n) rest_is in
-      let long : length (take n (take most rest)) ≡ n = length-take-le n (take most rest) is.0 in
-      let laid : after ≡ paste s len (drop at chunk) n =
-      whole_holds (take n (take most rest)) len s e after (omega arith) lays
-      ∙ ap (λ (m : ℕ). take len s ++ take n (take most rest) ++ drop (len + m) s) long
-      ∙ ap (λ (l : List ℕ). take len s ++ l ++ drop (len + n) s) piece in
-      rw laid (laid_all n full p (omega arith) (omega arith) other).filled
+      λ k h e. clear k h (get_or-take most rest k 0 (omega arith) ∙ ap (λ (l : List ℕ). get_or l k 0) rest_is ∙ get_or-drop at chunk k 0 ∙ e) in
+      let piece : take n (take most rest) ≡ take n (drop at chunk) = take-take n most rest some ∙ ap (take n) rest_is in
+      let is : after ≡ paste s len (drop at chunk) n = laid ∙ ap (λ (l : List ℕ). take len s ++ l ++ drop (len + n) s) piece in
+      rw is (laid_all n full p (omega arith) (omega arith) other).filled
+
+-- ---- bytes that are looked at and laid, eight by eight and one by one
+
+-- n bytes of the part are laid, none of them an LF
+pub record Passed (bytes : List ℕ) (len : ℕ) (part : List ℕ) (n : ℕ) (after : List ℕ) : Type 0 where
+  pub few : n ≤ length part
+  pub clear : (k : ℕ) → k < n → get_or part k 0 ≡ 10 → ⊥
+  pub laid : after ≡ paste bytes len part n
+
+-- eight bytes of which none is an LF, as the mask of their comparison tells
+pub no_lf : (eight : List ℕ) → length eight ≡ 8 → (mask : ℕ) → mask ≡ mask_l (map_list (top (hbits w8)) (zip2 (λ a b. cond (eqb a b) (2 ^ bits w8 - 1) 0) eight (replicate 8 10))) % 2 ^ 64 → mask ≡ 0
+    → (k : ℕ) → k < 8 → get_or eight k 0 ≡ 10 → ⊥
+no_lf eight long mask is empty k h e =
+    let whole : take 8 eight ≡ eight = take_all 8 eight (omega arith) in
+    let m : mask_l (map_list (λ (x : ℕ). eqb x 10) (take 8 eight)) ≡ 0 = rw whole (sym (bitmask_splat w8 eqb eight 8 10 long (omega arith)) ∙ sym is ∙ empty) in
+    eqb-false (get_or eight k 0) 10 (none_from_empty_mask (λ (x : ℕ). eqb x 10) eight 0 8 0 (omega arith) m k (omega arith) (omega arith)) e
+
+pub passed_none : (s : List ℕ) (len : ℕ) (part : List ℕ) → Passed s len part 0 s
+passed_none s len part = record { few = omega arith; clear = λ k h. absurd (omega arith); laid = paste-zero s len part }
+
+module _ {s : List ℕ} {len : ℕ} {part : List ℕ} {n : ℕ} {now : List ℕ} (p : Passed s len part n now) (room : len + length part ≤ length s) where
+  -- eight more
+  pub passed_eight : (k : ℕ) → n ≡ 8 * k → k < length part / 8 → ((j : ℕ) → j < 8 → get_or (take 8 (drop (8 * k) part)) j 0 ≡ 10 → ⊥)
+      → Passed s len part (n + 8) (put_chunk (len + n) now (take 8 (drop (8 * k) part)))
+  passed_eight k is more clear =
+      let some : n + 8 ≤ length part = omega arith in
+      let z : take 8 (drop (8 * k) part) ≡ take 8 (drop n part) = ap (λ (j : ℕ). take 8 (drop j part)) (sym is) in
+      record {
+        few = some;
+        clear = λ j g e.
+            ⊎_elim
+            (λ (q : ltb j n ≡ true). p.clear j (ltb-true j n q) e)
+            (λ (q : ltb j n ≡ false).
+            let le = ltb-false j n q in
+            let m : n + (j - n) ≡ j = omega arith in
+            clear (j - n) (omega arith)
+            (ap (λ (t : List ℕ). get_or t (j - n) 0) z ∙ get_or-take 8 (drop n part) (j - n) 0 (omega arith) ∙ get_or-drop n part (j - n) 0 ∙ ap (λ (m : ℕ). get_or part m 0) m ∙ e))
+            (both (ltb j n));
+        laid =
+            lay_on s part len n n 8 (n + 8) (omega arith) (omega arith) refl some (omega arith) p.laid
+            (ap (put_chunk (len + n) now) z ∙ stored now (drop n part) (len + n) 8 (omega (arith, length-drop n part)) (omega (arith, now_long)));
+      }
+    where
+      now_long : length now ≡ length s
+      now_long = ap length p.laid ∙ length-paste s len part n (omega (arith, p.few)) p.few
+
+  -- one more
+  pub passed_one : n < length part → (get_or part n 0 ≡ 10 → ⊥) → Passed s len part (n + 1) (set now (len + n) (get_or part n 0))
+  passed_one more other =
+      record {
+        few = omega arith;
+        clear = below_more (λ k. get_or part k 0 ≡ 10 → ⊥) n p.clear other;
+        laid = ap (λ (l : List ℕ). set l (len + n) (get_or part n 0)) p.laid ∙ lay_more s part len n more (omega arith);
+      }

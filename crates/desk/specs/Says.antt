@@ -3,7 +3,7 @@ use Rattle.std.specs.Prelude.{ℕ, List, take, Option, Some, None, Result}
 use Rattle.std.proofs.Math.Option.{none, some}
 use Rattle.std.proofs.Math.Option as M
 use Rattle.text.specs.Reading.{Reading}
-use Rattle.text.specs.says.Refusal.{number_of, reading_said}
+use Rattle.text.specs.says.Refusal.{reading_said}
 use Rattle.text.specs.declared.refusal.Refusal.{Refusal}
 use Rattle.at_command.specs.says.Request.{awaits_says, encoded_says}
 use Rattle.at_command.specs.declared.request.Awaits.{Awaits}
@@ -44,14 +44,9 @@ abbrev pub mode_says : Mode → R.Mode
 mode_says O.Plain = plain_mode
 mode_says O.Echo = echo_mode
 
--- the number of a stray, 0 where nothing was refused
-abbrev pub stray_says : Option Refusal → ℕ
-stray_says None = 0
-stray_says (Some k) = number_of k
-
 abbrev pub event_says : Event → J.Event
 event_says E.Overlong = J.Overlong
-event_says (E.Stray o) = J.Stray (stray_says o)
+event_says (E.Stray n) = J.Stray n
 event_says E.Failed = J.Failed
 event_says E.Taken = J.Taken
 event_says E.Done = J.Done

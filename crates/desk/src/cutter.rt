@@ -2,14 +2,15 @@
 // bytes are held. The two are no struct: one that holds the lent array is no plainer, since each
 // method would have to promise that the array behind it is still the same. `chunk` is lent beside
 // them, as it is to the public `feed_on` (FeedOnKeeps).
-ghost use Rattle.std.specs.Prelude.{ℕ, ◌≡◌, false, [], ◌∷◌, ◌++◌, ◌≤◌, ◌<◌, length, take, slice_index};
+ghost use Rattle.std.specs.Prelude.{ℕ, ◌≡◌, ◌+◌, false, [], ◌∷◌, ◌++◌, ◌≤◌, ◌<◌, length, take, slice_index};
+ghost use lib.Seq.{paste};
 ghost use Rattle.desk.specs.Cut.{bare, is_prompt, cut_one};
 ghost use Rattle.desk.specs.Lines.{line_of};
 ghost use Rattle.desk.specs.Desk.{view_of, buffered};
 ghost use Rattle.desk.specs.Search.{tray_of, found_after, Filled, Plain, Past};
 ghost use Rattle.desk.specs.Says.{found_line, pushed_says, found_says};
 
-use text::copy;
+use std::simd::u8x8;
 
 // What ends a feed: a line past its length, or the first bytes of the buffer, so many. Both are
 // events, and in an `Option<usize>` the first would be a line that is missing.
@@ -117,12 +118,39 @@ fn may_prompt(line: &[u8; 257], len: usize, b: u8) -> bool
     }
 }
 
-// How many bytes stand before the first LF, all of them where there is none.
-fn before_lf(s: &[u8]) -> usize
-    ensures few { result ≤ length s.now }
-    ensures clear { (k : ℕ) → k < result → slice_index s.now k ≡ 10 → ⊥ }
+// Whether an LF is among eight bytes.
+fn has_lf(eight: u8x8) -> bool
+    requires { length eight ≡ 8 }
+    ensures { result ≡ false → (k : ℕ) → k < 8 → slice_index eight k ≡ 10 → ⊥ }
 {
-    memchr::memchr(b'\n', s).unwrap_or(s.len())
+    eight.simd_eq(u8x8::splat(b'\n')).to_bitmask() != 0
+}
+
+// Lays the bytes of part behind the len that are held, up to an LF, and says how many: eight at a
+// time, then those before the LF, or fewer than eight at the end, one by one.
+fn lay_to_lf(line: &mut [u8], len: usize, part: &[u8]) -> usize
+    requires { len + length part.now ≤ length line.old }
+    ensures few { result ≤ length part.now }
+    ensures clear { (k : ℕ) → k < result → slice_index part.now k ≡ 10 → ⊥ }
+    ensures laid { line.new ≡ paste line.old len part.now result }
+{
+    let mut n = 0;
+    for k in 0..part.len() / 8 {
+        let eight = u8x8::from_slice(&part[8 * k..]);
+        if has_lf(eight) {
+            break;
+        }
+        eight.copy_to_slice(&mut line[len + n..]);
+        n += 8;
+    }
+    for b in &part[n..] {
+        if *b == b'\n' {
+            break;
+        }
+        line[len + n] = *b;
+        n += 1;
+    }
+    n
 }
 
 // Lays the bytes of chunk from at on behind the len that are held, up to an LF, the 256th byte or
@@ -135,10 +163,7 @@ fn fill(line: &mut [u8; 257], len: usize, chunk: &[u8], at: usize) -> usize
         return 0;
     }
     let rest = &chunk[at..];
-    let part = &rest[..rest.len().min(256 - len)];
-    let n = before_lf(part);
-    let _end = copy::lay(&part[..n], len, line);
-    n
+    lay_to_lf(line, len, &rest[..rest.len().min(256 - len)])
 }
 
 // The search stops at the first byte that stops a feed; the count taken runs through that byte, or

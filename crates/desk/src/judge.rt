@@ -49,7 +49,7 @@ fn respond(command: Option<Awaits>, kind: ResponseKind) -> Judged
 {
     let stays = Judged {
         command,
-        event: Event::Stray(None),
+        event: Event::Stray(0),
     };
     let Some(awaits) = command else {
         return stays;
@@ -81,7 +81,7 @@ pub(crate) fn judge(command: Option<Awaits>, sort: Result<Sort, Refusal>) -> Jud
     match sort {
         Err(refusal) => Judged {
             command,
-            event: Event::Stray(Some(refusal)),
+            event: Event::Stray(refusal.number()),
         },
         Ok(Sort::Unsolicited) => Judged {
             command,

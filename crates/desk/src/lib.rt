@@ -19,7 +19,6 @@ mod reset;
 use at_command::request::Awaits;
 pub use feed::{Fed, FedParts, Feed, Heard, feed_on};
 pub use open::{Mode, Opened, OpenedParts, open_echo_on, open_on};
-use text::refusal::Refusal;
 
 // What a desk keeps beside its two buffers, in numbers but for the command. Every value of every
 // field has a meaning, so no state is ill-formed. By default it is that of a new desk: zeros, and
@@ -49,8 +48,9 @@ pub struct Desk {
 #[derive(Clone, Copy, Debug, PartialEq, Eq)]
 pub enum Event {
     Overlong,
-    // No answer that is awaited, and why it is no line that is read, if it is none.
-    Stray(Option<Refusal>),
+    // No answer that is awaited, by its refusal's number, 0 where a reader takes the line. It is no
+    // `Option<Refusal>`, since `number` and `stray` promise an answer for every number.
+    Stray(u8),
     Failed,
     Taken,
     Done,
@@ -76,13 +76,12 @@ impl Event {
         }
     }
 
-    // The number of a stray that is refused, 0 of any other event: C is told numbers
-    // (stray_number).
+    // The number of a stray, 0 of any other event: C is told numbers (stray_number).
     pub fn stray(self) -> u64
         ensures { Gives (stray_number (event_says self)) result }
     {
         match self {
-            Event::Stray(Some(refusal)) => refusal.number().into(),
+            Event::Stray(number) => number.into(),
             _ => 0,
         }
     }

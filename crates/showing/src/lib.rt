@@ -11,28 +11,38 @@ use console::output;
 use console::said::Said;
 pub use desk::Mode;
 use desk::{Desk, Event, Feed, Heard};
+use std::fmt::Display;
 use std::io;
 use std::io::{Cursor, Input, Print, Read, Write};
 use text::part;
 use text::refusal::Refusal;
 
-// Bytes as they are, and the line's end.
-fn line(out: &mut impl Write, bytes: &[u8]) -> io::Result<()> {
-    out.write_all(bytes)?;
-    writeln!(out)
+// A line of output, composed in an array and written at once: a word, and the bytes behind it, if
+// any. The array is of fixed size, since there is no heap.
+fn print<D: Display + Drop>(
+    writer: &mut impl Write,
+    word: D,
+    rest: Option<&[u8]>,
+) -> io::Result<()> {
+    let mut line = [0u8; 512];
+    let mut out = Cursor::new(&mut line[..]);
+    write!(out, "{word}")?;
+    let mut n = out.position() as usize;
+    if let Some(rest) = rest {
+        n = output::put(&mut line, n, b" ");
+        n = output::put(&mut line, n, rest);
+    }
+    n = output::put(&mut line, n, b"\n");
+    output::flush(writer, &line, n)
 }
 
-// What the desk heard, with its line, composed in an array and written at once.
+// What the desk heard, with its line.
 fn say(writer: &mut impl Write, heard: Heard, text: &[u8]) -> io::Result<()> {
-    let mut out = Cursor::new([0u8; 512]);
-    write!(out, "{}", Said(heard))?;
-    if let Event::Overlong = heard.event {
-        writeln!(out)?;
-    } else {
-        write!(out, " ")?;
-        line(&mut out, part::part(text, 0, heard.size))?;
-    }
-    output::flush(writer, out.get_ref(), out.position() as usize)
+    let line = match heard.event {
+        Event::Overlong => None,
+        _ => Some(part::part(text, 0, heard.size)),
+    };
+    print(writer, Said(heard), line)
 }
 
 // Says what a feed tells, and answers how many bytes were taken. An error is the writer's.
@@ -81,8 +91,7 @@ fn show<R: Read, W: Write>(reader: &mut R, out: &mut W, mode: Mode) -> io::Resul
         return Ok(());
     };
     let sent = part::part(&command, 0, n);
-    write!(out, "open ")?;
-    line(out, sent.strip_suffix(b"\r").unwrap_or(sent))?;
+    print(out, "open", Some(sent.strip_suffix(b"\r").unwrap_or(sent)))?;
     let mut buffer = [0u8; 65536];
     // no input has more turns: each reads a byte
     for _ in 0..u64::MAX {
@@ -93,11 +102,11 @@ fn show<R: Read, W: Write>(reader: &mut R, out: &mut W, mode: Mode) -> io::Resul
         desk = drain(out, desk, &buffer[..n])?;
     }
     let end = if desk.state.command.is_some() {
-        "open"
+        "end open"
     } else {
-        "idle"
+        "end idle"
     };
-    writeln!(out, "end {end}")
+    print(out, end, None)
 }
 
 pub fn run(rt: &(impl Input + Print), mode: Mode) -> io::Result<()> {

@@ -13,7 +13,7 @@ use text::refusal::Refusal;
 
 // 1 + k awaits kind k, 14 + 13 a + b awaits a, then b; every other number is no command.
 #[tactic(auto, using(crate::proofs::Commands::awaits))]
-fn command_in(n: u64) -> Option<Awaits>
+pub(crate) fn command_in(n: u64) -> Option<Awaits>
     ensures { command_says result ≡ awaiting (awaited_in n) }
 {
     match n {

@@ -30,7 +30,7 @@ pub extern "C" fn sim7000_reset(state: &mut [u64; 4])
 pub extern "C" fn sim7000_is_open(state: &[u64; 4]) -> u8
     ensures { ExportIsOpenKeeps state.now result }
 {
-    numbers::state_in(state).command.is_some().into()
+    numbers::command_in(state[1]).is_some().into()
 }
 
 // What an open leaves in the numbers; a refusal leaves them.

@@ -7,6 +7,7 @@ use crate::utf8;
 
 // What every reader refuses: a line of more than 256 bytes, then one that is not UTF-8.
 #[tactic(auto, using(crate::proofs::LineLaws::check_long, crate::proofs::LineLaws::check_good, crate::proofs::LineLaws::check_bad))]
+#[inline(always)]
 pub fn check_line(s: &[u8]) -> Result<(), Refusal>
     ensures { ChecksKeep (line_check s.now) result }
 {

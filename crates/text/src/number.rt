@@ -149,7 +149,7 @@ fn parse<T: Width>(s: &[u8], base: Base) -> Option<T>
 pub fn parse_u8(s: &[u8]) -> Option<u8>
     ensures { ParsedKeeps (unsigned 10 255 s.now) result }
 {
-    parse(s, Base::Decimal)
+    parse::<u8>(s, Base::Decimal)
 }
 
 pub fn parse_u16(s: &[u8]) -> Option<u16>

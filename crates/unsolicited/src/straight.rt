@@ -35,7 +35,7 @@ fn checked_at(place: usize, line: &[u8]) -> Result<Urc, Refusal>
 pub fn read_at(place: usize, line: &[u8]) -> Result<Urc, Refusal>
     ensures { UrcAtKeeps place line.now result }
 {
-    line::check_line(line)?;
+    line::check_line(line)?; // the only check before a value
     checked_at(place, line)
 }
 

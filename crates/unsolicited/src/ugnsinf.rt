@@ -4,6 +4,7 @@ ghost use Rattle.text.specs.Bytes.{bytes, same, all_digits};
 ghost use Rattle.text.specs.Field.{fields, nth};
 ghost use Rattle.text.specs.Reading.{read, need, present, refusal_in};
 ghost use Rattle.text.specs.says.Refusal.{number_of, option_said, option_mapped, refusal_said};
+ghost use Rattle.text.specs.Reader.{FieldStartsKeeps};
 ghost use Rattle.numeral.specs.Numeral.{float_of};
 ghost use Rattle.unsolicited.specs.Date.{Date, figures, date_in, existing, is_fraction};
 ghost use Rattle.unsolicited.specs.Places.{Places};
@@ -135,12 +136,13 @@ pub enum GnssReport {
     Fix(GnssFix),
 }
 
-// What follows the prefix, and where each of its 21 fields begins, found once for all of them.
+// What follows the prefix, and where each of its 21 fields begins, found once for all of them. The
+// places are lent: the array is not copied.
 #[derive(Drop)]
 struct Fields<'a> {
     rest: &'a [u8],
-    places: [usize; 22],
-    ghost found: { Places places rest.now },
+    places: &'a [usize; 22],
+    ghost found: { Places places.now rest.now },
 }
 
 impl<'a> Fields<'a> {
@@ -148,12 +150,12 @@ impl<'a> Fields<'a> {
 
     // There are exactly 21 fields where the last begins within the text and a next one does not.
     #[tactic(auto, using(crate::proofs::Reports::places))]
-    fn new(rest: &'a [u8]) -> Result<Fields<'a>, Refusal>
+    fn new(rest: &'a [u8], places: &'a [usize; 22]) -> Result<Fields<'a>, Refusal>
+        requires { FieldStartsKeeps rest.now places.now }
         ensures { MatchResult result
             (λ found. found.rest.now ≡ rest.now)
             (λ k. (length (fields 44 rest.now) ≡ 21 → ⊥) × (number_of k ≡ 3)) }
     {
-        let places = reader::field_starts(rest);
         if rest.len() < places[20] {
             return Err(Refusal::NotThisLine);
         }
@@ -311,7 +313,8 @@ impl GnssReport {
     fn gnss_report(rest: &[u8]) -> Result<GnssReport, Refusal>
         ensures { says result ≡ ugnsinf_fields (fields 44 rest.now) }
     {
-        let found = Fields::new(rest)?;
+        let places = reader::field_starts(rest);
+        let found = Fields::new(rest, &places)?;
         if !found.is_one(0) {
             return Ok(GnssReport::NotEnabled);
         }
@@ -328,7 +331,8 @@ impl GnssReport {
     fn report_refusal(rest: &[u8]) -> Result<(), Refusal>
         ensures { refusal_said result ≡ refusal_in (ugnsinf_fields (fields 44 rest.now)) }
     {
-        let found = Fields::new(rest)?;
+        let places = reader::field_starts(rest);
+        let found = Fields::new(rest, &places)?;
         if !found.is_one(0) {
             return Ok(());
         }

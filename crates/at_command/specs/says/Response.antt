@@ -1,10 +1,10 @@
 -- What the answers of the trial say on paper.
-use Rattle.std.specs.Prelude.{◌≡◌, List, ℕ, Result}
+use Rattle.std.specs.Prelude.{◌≡◌, ◌+◌, List, ℕ, Result, Ok, Err, drop}
 use Rattle.text.specs.Line.{checked}
-use Rattle.text.specs.Reading.{Reading}
-use Rattle.text.specs.says.Refusal.{reading_said}
+use Rattle.text.specs.Reading.{Reading, read, first_of}
+use Rattle.text.specs.says.Refusal.{number_of, reading_said}
 use Rattle.text.specs.declared.refusal.Refusal.{Refusal}
-use Rattle.at_command.specs.Response.{Response, kind_of, ok, error, prompt, close_ok, iccid, signal, system, operator, time, download, imei, format, message, response_text, reading_at}
+use Rattle.at_command.specs.Response.{Response, kind_of, ok, error, prompt, close_ok, iccid, signal, system, operator, time, download, imei, format, message, readings, response_text, reading_at}
 use Rattle.at_command.specs.says.Ccid.{card_says}
 use Rattle.at_command.specs.says.Cmgf.{format_number}
 use Rattle.at_command.specs.says.Cmgr.{message_says}
@@ -37,6 +37,15 @@ code_says (R.SmsMessage v) = message (message_says v)
 
 abbrev pub says : Result ResponseCode Refusal → Reading Response
 says = reading_said code_says
+
+-- before the reader at a place: what is left of the trial, where the readers before it refused, the worst of them so
+abbrev pub TriedTo : ℕ → List ℕ → Refusal → Type 0
+TriedTo place line k = response_text line ≡ first_of (number_of k) (drop place (readings line))
+
+-- and behind it: Err is what it said, which ends the trial
+abbrev pub TriedKeeps : ℕ → List ℕ → Result Refusal ResponseCode → Type 0
+TriedKeeps place line (Ok k) = TriedTo (place + 1) line k
+TriedKeeps place line (Err code) = read (code_says code) ≡ response_text line
 
 -- the contract of the trial
 abbrev pub ResponseCodeKeeps : List ℕ → Result ResponseCode Refusal → Type 0

@@ -6,8 +6,7 @@ use mathlib.Core.List.{[]}
 use mir.Val.{bool_byte}
 use Rattle.std.specs.Prelude.{Option, is_some}
 use Rattle.at_command.specs.declared.request.Awaits.{Awaits}
-use Rattle.desk.specs.Judge.{is_open}
-use Rattle.desk.specs.Desk.{State, command_kept}
+use Rattle.desk.specs.Judge.{Command, is_open}
 use Rattle.desk.specs.Says.{command_says}
 use Rattle.desk.proofs.Opening.{some_open}
 use Rattle.sim7000.proofs.parts.sim7000_is_open.Goals as goal
@@ -20,6 +19,4 @@ open_byte : (o : Option Awaits) {b : Bool} {n : ℕ} → n ≡ bool_byte b → b
 open_byte o e f = e ∙ ap bool_byte (f ∙ sym (some_open o)) ∙ byte_is (is_open (command_says o))
 
 pub returns : goal.returns
-returns c =
-    open_byte c.state_in.result.command c.into.ensures c.is_some.ensures
-    ∙ ap (λ (s : State). cond (is_open (command_kept s.command)) 1 0) (c.state_in.ensures [] [])
+returns c = open_byte c.command_in.result c.into.ensures c.is_some.ensures ∙ ap (λ (k : Command). cond (is_open k) 1 0) c.command_in.ensures

@@ -1,7 +1,7 @@
--- The loop's invariant: the first i bytes are laid.
-use Rattle.std.proofs.Common.{◌≡◌, ◌+◌, ◌≤◌, length}
+-- The loop's invariant: k chunks are laid.
+use Rattle.std.proofs.Common.{◌≡◌, ◌*◌}
 use lib.Seq.{paste}
 use Rattle.text.proofs.copy.lay.Given as goal
 
-abbrev pub invariant-loop-i : goal.invariant-loop-i
-invariant-loop-i l = (l.n ≤ length l.piece) × (l.at + l.n ≤ length l.initial.out) × (l.out ≡ paste l.initial.out l.at l.piece l.i) × (length l.out ≡ length l.initial.out)
+abbrev pub invariant-loop-k : goal.invariant-loop-k
+invariant-loop-k l = l.out ≡ paste l.initial.out l.at l.piece (16 * l.k)
