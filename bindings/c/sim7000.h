@@ -18,7 +18,7 @@
  * What it needs. Of the C library memcpy alone: no heap, no file, no clock. Some 45 kilobytes of code and constants and no writable data, so that
  * calls on different desks and buffers may run at the same time; of calls on one desk each begins when the one before it has ended, and that is the
  * caller's to see to. For the stack count 1536 bytes a call of the archive, and some 200 more for an inline one: measured on a painted stack, over the stored
- * list of lines, the deepest was sim7000_feed with 1432, and bindings/test-c measures it again. The code uses the SSE registers and the 128 bytes below
+ * list of lines, the deepest was sim7000_read_line with 1424, and bindings/test-c measures it again. The code uses the SSE registers and the 128 bytes below
  * the stack pointer, as the convention allows: think of both before calling it in an interrupt. Of <string.h> this header uses memcpy alone.
  *
  * Later versions add refusals, readers, events and requests: give a switch over an enum a default. */
