@@ -15,11 +15,14 @@
  * bytes too. What a call writes overlaps nothing else that it is lent: not out with a text of the request, not the text buffer with the chunk. What it only reads may
  * overlap: both texts of a request may be the same bytes.
  *
- * What it needs. Of the C library memcpy alone: no heap, no file, no clock. Some 45 kilobytes of code and constants and no writable data, so that
- * calls on different desks and buffers may run at the same time; of calls on one desk each begins when the one before it has ended, and that is the
- * caller's to see to. For the stack count 1536 bytes a call of the archive, and some 200 more for an inline one: measured on a painted stack, over the stored
- * list of lines, the deepest was sim7000_read_line with 1424, and bindings/test-c measures it again. The code uses the SSE registers and the 128 bytes below
- * the stack pointer, as the convention allows: think of both before calling it in an interrupt. Of <string.h> this header uses memcpy alone.
+ * What it needs. Of the C library memcpy alone: no heap, no file, no clock. Some 43 kilobytes of
+ * code and constants and no writable data, so that calls on different desks and buffers may run at
+ * the same time; of calls on one desk each begins when the one before it has ended, and that is the
+ * caller's to see to. For the stack count 1536 bytes a call of the archive, and some 200 more for
+ * an inline one: measured on a painted stack, over the stored list of lines, the deepest was
+ * sim7000_read_line with 1424, and bindings/test-c measures it again. The code uses the SSE
+ * registers and the 128 bytes below the stack pointer, as the convention allows: think of both
+ * before calling it in an interrupt. Of <string.h> this header uses memcpy alone.
  *
  * Later versions add refusals, readers, events and requests: give a switch over an enum a default. */
 #ifndef SIM7000_H
